@@ -1,0 +1,182 @@
+-- Laws of signed figures: differences of natural numbers, the order, the lower of two, and sums. Assumes nothing.
+use mathlib.Core.Path.{_≡_, refl, sym, _∙_, ap, ap₂}
+use mathlib.Core.Logic.{_⊎_, inl, inr}
+use mathlib.Core.Bool.{Bool, true, false, not, cond, true≢false}
+use Prim.Native.Nat.{ℕ, zero, suc, _+_, _*_, _-_, max, _≤_, _<_, zero-le}
+use native.Mathlib.Nat.{not-suc-le-zero, le-trans, le-antisymm, le-refl, le-max-left, le-max-right, suc-mul}
+use native.Mathlib.Numerals.{add-one}
+use native.Mathlib.Omega.{arith}
+use lib.Dec.{T, ltb, leb→le, le→leb, ltb→lt}
+use lib.IntN.{ℤ, pos, negsuc, natAbs, subℕ, _+ℤ_, _-ℤ_}
+use lib.Signed.{mag, nonNeg, ltZ, leZ, _≤ℤ_, _<ℤ_, leZ-yes, ltZ-yes, ltZ-no, ≤ℤ-refl}
+use borrow.Author.Tests.{ltb-true, ltb-false, lt-ltb, le-ltb}
+use Rattle.numbers.specs.Sums.{sum}
+use Rattle.numbers.specs.Signed.{isPositive, isNegative, lower, sumℤ}
+use Rattle.numbers.proofs.TestLaws.{bool-cases}
+
+-- a difference by cases
+pub sub-above : (a b : ℕ) → b ≤ a → subℕ a b ≡ pos (a - b)
+sub-above a b h = rw (le-ltb a b h)
+
+pub sub-below : (a b : ℕ) → a < b → subℕ a b ≡ negsuc (b - suc a)
+sub-below a b h = rw (lt-ltb a b h)
+
+below-or-above : (a b : ℕ) → (a < b) ⊎ (b ≤ a)
+below-or-above a b = elim (bool-cases (ltb a b)) [ inl e ↦ inl (ltb-true a b e) | inr e ↦ inr (ltb-false a b e) ]
+
+pub pos-le : {m n : ℕ} → m ≤ n → pos m ≤ℤ pos n
+pos-le h = record { le = le→leb _ _ h }
+
+pub negsuc-le : {m n : ℕ} → n ≤ m → negsuc m ≤ℤ negsuc n
+negsuc-le h = record { le = le→leb _ _ h }
+
+pub sub-mono : {a a′ c c′ : ℕ} → a ≤ a′ → c′ ≤ c → subℕ a c ≤ℤ subℕ a′ c′
+sub-mono {a} {a′} {c} {c′} h k = go (below-or-above a c) (below-or-above a′ c′)
+  where
+    go : (a < c) ⊎ (c ≤ a) → (a′ < c′) ⊎ (c′ ≤ a′) → subℕ a c ≤ℤ subℕ a′ c′
+    go (inl p) (inl q) = rw (sub-below a c p, sub-below a′ c′ q) (negsuc-le (omega arith))
+    go (inl p) (inr q) = rw (sub-below a c p, sub-above a′ c′ q) (leZ-yes tt)
+    go (inr p) (inl q) = absurd (omega arith)
+    go (inr p) (inr q) = rw (sub-above a c p, sub-above a′ c′ q) (pos-le (omega arith))
+
+-- equal differences
+pub sub-eq : (a b c d : ℕ) → a + d ≡ c + b → subℕ a b ≡ subℕ c d
+sub-eq a b c d e = go (below-or-above a b) (below-or-above c d)
+  where
+    go : (a < b) ⊎ (b ≤ a) → (c < d) ⊎ (d ≤ c) → subℕ a b ≡ subℕ c d
+    go (inl p) (inl q) = rw (sub-below a b p, sub-below c d q) (ap negsuc (omega arith))
+    go (inl p) (inr q) = absurd (omega arith)
+    go (inr p) (inl q) = absurd (omega arith)
+    go (inr p) (inr q) = rw (sub-above a b p, sub-above c d q) (ap pos (omega arith))
+
+pub sub-add : (a b c d : ℕ) → subℕ a b +ℤ subℕ c d ≡ subℕ (a + c) (b + d)
+sub-add a b c d = go (below-or-above a b) (below-or-above c d)
+  where
+    go : (a < b) ⊎ (b ≤ a) → (c < d) ⊎ (d ≤ c) → subℕ a b +ℤ subℕ c d ≡ subℕ (a + c) (b + d)
+    go (inl p) (inl q) =
+        rw (sub-below a b p, sub-below c d q, sub-below (a + c) (b + d) (omega arith)) (ap negsuc (omega arith))
+    go (inl p) (inr q) = rw (sub-below a b p, sub-above c d q) (sub-eq (c - d) (suc (b - suc a)) (a + c) (b + d) (omega arith))
+    go (inr p) (inl q) = rw (sub-above a b p, sub-below c d q) (sub-eq (a - b) (suc (d - suc c)) (a + c) (b + d) (omega arith))
+    go (inr p) (inr q) =
+        rw (sub-above a b p, sub-above c d q, sub-above (a + c) (b + d) (omega arith)) (ap pos (omega arith))
+
+pub natAbs-sub : (a b : ℕ) → natAbs (subℕ a b) ≤ max a b
+natAbs-sub a b = go (below-or-above a b)
+  where
+    go : (a < b) ⊎ (b ≤ a) → natAbs (subℕ a b) ≤ max a b
+    go (inl p) = rw (sub-below a b p) (omega arith)
+    go (inr p) = rw (sub-above a b p) (omega arith)
+
+-- a difference is above zero where the first number is the larger, and below zero where the second is
+pub positive-iff : (a b : ℕ) → isPositive (subℕ a b) ≡ ltb b a
+positive-iff a b = go (below-or-above a b) (below-or-above b a)
+  where
+    go : (a < b) ⊎ (b ≤ a) → (b < a) ⊎ (a ≤ b) → isPositive (subℕ a b) ≡ ltb b a
+    go (inl p) q = rw (sub-below a b p) (sym (le-ltb b a (omega arith)))
+    go (inr p) (inl q) = rw (sub-above a b p, lt-ltb b a q) (lt-ltb 0 (a - b) (omega arith))
+    go (inr p) (inr q) = rw (sub-above a b p, le-ltb b a q) (le-ltb 0 (a - b) (omega arith))
+
+pub negative-iff : (a b : ℕ) → isNegative (subℕ a b) ≡ ltb a b
+negative-iff a b = go (below-or-above a b)
+  where
+    go : (a < b) ⊎ (b ≤ a) → isNegative (subℕ a b) ≡ ltb a b
+    go (inl p) = rw (sub-below a b p) (sym (lt-ltb a b p))
+    go (inr p) = rw (sub-above a b p, le-ltb a b p) (le-ltb (a - b) 0 zero-le)
+
+-- the order
+trans′ : (a b c : ℤ) → T (leZ a b) → T (leZ b c) → T (leZ a c)
+trans′ (pos a) (pos b) (pos c) h k = le→leb a c (le-trans (leb→le a b h) (leb→le b c k))
+trans′ (pos a) (pos b) (negsuc c) h k = absurd k
+trans′ (pos a) (negsuc b) c h k = absurd h
+trans′ (negsuc a) b (pos c) h k = tt
+trans′ (negsuc a) (pos b) (negsuc c) h k = absurd k
+trans′ (negsuc a) (negsuc b) (negsuc c) h k = le→leb c a (le-trans (leb→le c b k) (leb→le b a h))
+
+pub ≤ℤ-trans : {a b c : ℤ} → a ≤ℤ b → b ≤ℤ c → a ≤ℤ c
+≤ℤ-trans {a} {b} {c} h k = record { le = trans′ a b c (h .le) (k .le) }
+
+antisymm′ : (a b : ℤ) → T (leZ a b) → T (leZ b a) → a ≡ b
+antisymm′ (pos a) (pos b) h k = ap pos (le-antisymm (leb→le a b h) (leb→le b a k))
+antisymm′ (pos a) (negsuc b) h k = absurd h
+antisymm′ (negsuc a) (pos b) h k = absurd k
+antisymm′ (negsuc a) (negsuc b) h k = ap negsuc (le-antisymm (leb→le a b k) (leb→le b a h))
+
+pub ≤ℤ-antisymm : {a b : ℤ} → a ≤ℤ b → b ≤ℤ a → a ≡ b
+≤ℤ-antisymm {a} {b} h k = antisymm′ a b (h .le) (k .le)
+
+weaken′ : (a b : ℤ) → T (ltZ a b) → T (leZ a b)
+weaken′ (pos a) (pos b) h = le→leb a b (omega (arith, ltb→lt a b h))
+weaken′ (pos a) (negsuc b) h = h
+weaken′ (negsuc a) (pos b) h = tt
+weaken′ (negsuc a) (negsuc b) h = le→leb b a (omega (arith, ltb→lt b a h))
+
+pub <ℤ-≤ℤ : {a b : ℤ} → a <ℤ b → a ≤ℤ b
+<ℤ-≤ℤ {a} {b} h = record { le = weaken′ a b (h .lt) }
+
+-- a number below zero, by its distance from -1
+pub minus-one-less : (z : ℤ) → isNegative z ≡ true → negsuc 0 -ℤ z ≡ pos (mag z)
+minus-one-less (pos n) e = absurd (not-suc-le-zero (ltb-true n 0 e))
+minus-one-less (negsuc n) e = sub-above (suc n) 1 (omega arith) ∙ ap pos (omega arith)
+
+pub natAbs-negative : (z : ℤ) → isNegative z ≡ true → natAbs z ≡ mag z + 1
+natAbs-negative (pos n) e = absurd (not-suc-le-zero (ltb-true n 0 e))
+natAbs-negative (negsuc n) e = omega arith
+
+pub not-negative : (z : ℤ) → isNegative z ≡ false → T (nonNeg z)
+not-negative (pos n) e = tt
+not-negative (negsuc n) e = absurd (true≢false e)
+
+-- the lower of two
+lower-ind : (P : ℤ → Type 0) (a b : ℤ) → (T (not (ltZ b a)) → P a) → (T (ltZ b a) → P b) → P (lower a b)
+lower-ind P a b f g = go (ltZ b a) f g
+  where
+    go : (t : Bool) → (T (not t) → P a) → (T t → P b) → P (cond t b a)
+    go true f g = g tt
+    go false f g = f tt
+
+module _ (a b : ℤ) where
+  pub lower-le-left : lower a b ≤ℤ a
+  lower-le-left = lower-ind (λ z. z ≤ℤ a) a b (λ t. ≤ℤ-refl a) (λ t. <ℤ-≤ℤ (ltZ-yes t))
+
+  pub lower-le-right : lower a b ≤ℤ b
+  lower-le-right = lower-ind (λ z. z ≤ℤ b) a b (λ t. ltZ-no t) (λ t. ≤ℤ-refl b)
+
+  pub le-lower : (c : ℤ) → c ≤ℤ a → c ≤ℤ b → c ≤ℤ lower a b
+  le-lower c h k = lower-ind (λ z. c ≤ℤ z) a b (λ t. h) (λ t. k)
+
+  pub natAbs-lower : natAbs (lower a b) ≤ max (natAbs a) (natAbs b)
+  natAbs-lower = lower-ind (λ z. natAbs z ≤ max (natAbs a) (natAbs b)) a b (λ t. le-max-left _ _) (λ t. le-max-right _ _)
+
+pub lower-mono : {a a′ b b′ : ℤ} → a ≤ℤ a′ → b ≤ℤ b′ → lower a b ≤ℤ lower a′ b′
+lower-mono {a} {a′} {b} {b′} h k =
+    le-lower a′ b′ (lower a b) (≤ℤ-trans (lower-le-left a b) h) (≤ℤ-trans (lower-le-right a b) k)
+
+-- signed sums
+pub natAbs-add : (a b : ℤ) → natAbs (a +ℤ b) ≤ natAbs a + natAbs b
+natAbs-add (pos a) (pos b) = le-refl _
+natAbs-add (pos a) (negsuc b) = omega (arith, natAbs-sub a (suc b))
+natAbs-add (negsuc a) (pos b) = omega (arith, natAbs-sub b (suc a))
+natAbs-add (negsuc a) (negsuc b) = omega arith
+
+-- one number more, in the code's form
+pub sumℤ-step : (n : ℕ) (f : ℕ → ℤ) → sumℤ (n + 1) f ≡ sumℤ n f +ℤ f n
+unfolding sumℤ
+sumℤ-step n f = rw add-one
+
+pub sumℤ-cong : (n : ℕ) (f g : ℕ → ℤ) → ((k : ℕ) → k < n → f k ≡ g k) → sumℤ n f ≡ sumℤ n g
+unfolding sumℤ
+sumℤ-cong zero f g h = refl
+sumℤ-cong (suc n) f g h = ap₂ _+ℤ_ (sumℤ-cong n f g (λ k l. h k (omega arith))) (h n (omega arith))
+
+pub sumℤ-bound : (n : ℕ) (f : ℕ → ℤ) (b : ℕ) → ((k : ℕ) → k < n → natAbs (f k) ≤ b) → natAbs (sumℤ n f) ≤ n * b
+unfolding sumℤ
+sumℤ-bound zero f b h = zero-le
+sumℤ-bound (suc n) f b h =
+    let rest : natAbs (sumℤ n f) ≤ n * b = sumℤ-bound n f b (λ k l. h k (omega arith)) in
+    omega (arith, natAbs-add (sumℤ n f) (f n), h n (omega arith), suc-mul n b)
+
+-- a sum of differences is the difference of the sums
+pub sumℤ-sub : (n : ℕ) (f g : ℕ → ℕ) → sumℤ n (λ k. subℕ (f k) (g k)) ≡ subℕ (sum n f) (sum n g)
+unfolding sumℤ sum
+sumℤ-sub zero f g = refl
+sumℤ-sub (suc n) f g = ap (λ z. z +ℤ subℕ (f n) (g n)) (sumℤ-sub n f g) ∙ sub-add (sum n f) (sum n g) (f n) (g n)

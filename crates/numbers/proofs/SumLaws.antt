@@ -1,0 +1,86 @@
+-- Laws of the sums of Sums.antt. Assumes nothing.
+use mathlib.Core.Path.{_≡_, refl, ap, ap₂}
+use mathlib.Core.Bool.{Bool, true, false, cond}
+use mathlib.Core.List.{List, [], _∷_, _++_, map}
+use Prim.Native.Nat.{ℕ, zero, suc, _+_, _*_, _≤_, _<_, zero-le}
+use native.Mathlib.Nat.{add-le-add, le-refl, suc-mul, mul-one}
+use native.Mathlib.Numerals.{add-one}
+use native.Mathlib.Omega.{arith}
+use lib.ListN.{length}
+use Rattle.numbers.specs.Sums.{sum, countBelow, total, count}
+
+one-or-none : (b : Bool) → cond b 1 0 ≤ 1
+one-or-none true = le-refl 1
+one-or-none false = zero-le
+
+module _ {A : Type 0} where
+  pub total-append : (f : A → ℕ) (xs ys : List A) → total f (xs ++ ys) ≡ total f xs + total f ys
+  unfolding total
+  total-append f [] ys = omega arith
+  total-append f (x ∷ xs) ys = omega (arith, total-append f xs ys)
+
+  pub total-cong : (f g : A → ℕ) → ((x : A) → f x ≡ g x) → (xs : List A) → total f xs ≡ total g xs
+  unfolding total
+  total-cong f g h [] = refl
+  total-cong f g h (x ∷ xs) = ap₂ _+_ (h x) (total-cong f g h xs)
+
+  pub total-le : (f g : A → ℕ) → ((x : A) → f x ≤ g x) → (xs : List A) → total f xs ≤ total g xs
+  unfolding total
+  total-le f g h [] = zero-le
+  total-le f g h (x ∷ xs) = add-le-add (h x) (total-le f g h xs)
+
+  pub total-bound : (f : A → ℕ) (k : ℕ) → ((x : A) → f x ≤ k) → (xs : List A) → total f xs ≤ length xs * k
+  unfolding total
+  total-bound f k h [] = zero-le
+  total-bound f k h (x ∷ xs) = rw suc-mul (omega (arith, h x, total-bound f k h xs))
+
+  pub total-zero : (f : A → ℕ) → ((x : A) → f x ≡ 0) → (xs : List A) → total f xs ≡ 0
+  unfolding total
+  total-zero f h [] = refl
+  total-zero f h (x ∷ xs) = omega (arith, h x, total-zero f h xs)
+
+  pub count-append : (f : A → Bool) (xs ys : List A) → count f (xs ++ ys) ≡ count f xs + count f ys
+  unfolding count
+  count-append f xs ys = total-append _ xs ys
+
+  pub count-cong : (f g : A → Bool) → ((x : A) → f x ≡ g x) → (xs : List A) → count f xs ≡ count g xs
+  unfolding count
+  count-cong f g h xs = total-cong _ _ (λ x. ap (λ b. cond b 1 0) (h x)) xs
+
+  pub count-le-length : (f : A → Bool) (xs : List A) → count f xs ≤ length xs
+  unfolding count
+  count-le-length f xs = rw mul-one at (total-bound _ 1 (λ x. one-or-none (f x)) xs)
+
+-- the total over a list's image
+pub total-map : {A B : Type 0} (f : B → ℕ) (g : A → B) (xs : List A) → total f (map g xs) ≡ total (λ x. f (g x)) xs
+unfolding total
+total-map f g [] = refl
+total-map f g (x ∷ xs) = ap (λ n. f (g x) + n) (total-map f g xs)
+
+-- one number more, in the code's form
+pub sum-step : (n : ℕ) (f : ℕ → ℕ) → sum (n + 1) f ≡ sum n f + f n
+unfolding sum
+sum-step n f = rw add-one
+
+pub sum-cong : (n : ℕ) (f g : ℕ → ℕ) → ((k : ℕ) → k < n → f k ≡ g k) → sum n f ≡ sum n g
+unfolding sum
+sum-cong zero f g h = refl
+sum-cong (suc n) f g h = ap₂ _+_ (sum-cong n f g (λ k l. h k (omega arith))) (h n (omega arith))
+
+pub sum-le : (n : ℕ) (f g : ℕ → ℕ) → ((k : ℕ) → k < n → f k ≤ g k) → sum n f ≤ sum n g
+unfolding sum
+sum-le zero f g h = zero-le
+sum-le (suc n) f g h = add-le-add (sum-le n f g (λ k l. h k (omega arith))) (h n (omega arith))
+
+pub sum-bound : (n : ℕ) (f : ℕ → ℕ) (b : ℕ) → ((k : ℕ) → k < n → f k ≤ b) → sum n f ≤ n * b
+unfolding sum
+sum-bound zero f b h = zero-le
+sum-bound (suc n) f b h = rw suc-mul (add-le-add (sum-bound n f b (λ k l. h k (omega arith))) (h n (omega arith)))
+
+pub countBelow-le : (n : ℕ) (f : ℕ → Bool) → countBelow n f ≤ n
+unfolding countBelow
+countBelow-le n f = rw mul-one at (sum-bound n _ 1 (λ k l. one-or-none (f k)))
+
+pub countBelow-step : (n : ℕ) (f : ℕ → Bool) → countBelow (n + 1) f ≡ countBelow n f + cond (f n) 1 0
+unfolding countBelow
+countBelow-step n f = sum-step n _

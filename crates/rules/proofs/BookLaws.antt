@@ -1,0 +1,132 @@
+-- Laws of opening, posting and withdrawing, on the words and on the records they hold. Assumes nothing.
+use mathlib.Core.Path.{_≡_, refl, sym, ap, ap₂, _∙_}
+use mathlib.Core.Logic.{_⊎_, inl, inr, _≢_}
+use mathlib.Core.Bool.{Bool, true, false, not, _&&_, _||_, true≢false, false≢true}
+use mathlib.Core.List.{List, [], _∷_, _++_, append-assoc, append-nil}
+use Prim.Native.Nat.{ℕ, zero, suc, _+_, _-_, _*_, _/_, _%_, _≤_, _<_, min}
+use native.Mathlib.Numerals.{add-one, add-two, add-three, add-four}
+use native.Mathlib.Omega.{arith}
+use lib.Dec.{eqb, leb, ltb}
+use lib.ListN.{length, getD, take, drop, set, length-append, length-take, length-drop, length-set}
+use lib.Seq.{drop-drop, sets, sets-eq, take-at, drop-append-add}
+use borrow.Author.Tests.{leb-true, ltb-true, eqb-true, le-leb, eq-eqb, ne-eqb}
+use Rattle.numbers.specs.Tests.{every, all}
+use Rattle.numbers.specs.Causes.{unless, firstOf, ifDone}
+use Rattle.numbers.proofs.TestLaws.{and-split, and-join, or-cases, or-right, every-holds}
+use Rattle.numbers.proofs.CauseLaws.{clear-all, unless-zero, done-zero, done-else}
+use Rattle.rules.specs.Entry.{Key, Record, keyOf, recordOf, key, legal, fault, statusOk, markOk, dayOk, isMark, isStanding, isBilateral, standing, withdrawn, cancelled, markType}
+use Rattle.rules.specs.Words.{word, typeBits, encode, decode, encodeAll, usedWords, laid, isBook, entries, countOf, coefficientOf, toleranceOf, roomIn, readEntries}
+use Rattle.rules.specs.Book.{openCause, openWords, postCause, posted, postWords, storedAt, placeOf, entryAt, raised, restatused, withdrawCause, withdrawWords, isStandingAt, shutTo}
+use Rattle.rules.specs.Ledger.{noRecord}
+use Rattle.rules.proofs.WordLaws.{Fits, IsLaid, laid-book, room-words, length-encode-all, encode-all-append, read-at, book-facts, book-fits, book-laid}
+
+-- opening
+pub record OpenLimits (lent R TM : ℕ) : Type 0 where
+  pub long : 3 ≤ lent
+  pub coefficient : R ≤ 1000
+  pub tolerance : TM ≤ 200000000
+
+pub open-limits : (lent R TM : ℕ) → openCause lent R TM ≡ 0 → OpenLimits lent R TM
+unfolding openCause
+open-limits lent R TM e =
+    let c = clear-all (unless (leb 3 lent) 11 ∷ unless (leb R 1000 && leb TM 200000000) 12 ∷ []) e in
+    let f = and-split (leb R 1000) (leb TM 200000000) (unless-zero _ 11 (c .1 .0)) in
+    record { long = leb-true _ _ (unless-zero _ 10 (c .0)); coefficient = leb-true _ _ (f .0); tolerance = leb-true _ _ (f .1) }
+
+stored-three : (ws : List ℕ) (a b c : ℕ) → 3 ≤ length ws → set (set (set ws 0 a) 1 b) 2 c ≡ a ∷ b ∷ c ∷ drop 3 ws
+stored-three [] a b c h = absurd (omega arith)
+stored-three (x ∷ []) a b c h = absurd (omega arith)
+stored-three (x ∷ y ∷ []) a b c h = absurd (omega arith)
+stored-three (x ∷ y ∷ z ∷ ws) a b c h = refl
+
+pub opened-laid : (ws : List ℕ) (R TM : ℕ) → openCause (length ws) R TM ≡ 0 → openWords ws R TM ≡ laid R TM [] ws
+unfolding openWords laid usedWords encodeAll
+opened-laid ws R TM e = rw e (stored-three ws _ _ _ (open-limits (length ws) R TM e .long))
+
+-- what a call makes of a record is legal again
+pub new-legal : (k : Key) (a : ℕ) → fault k a ≡ 0 → legal (recordOf k standing a) ≡ true
+unfolding legal statusOk
+new-legal k a e = rw e
+
+-- an entry that is no mark passes checks 3 to 7
+pub legal-fault : (r : Record) → legal r ≡ true → isMark r ≡ false → fault (key r) (r .amount) ≡ 0
+unfolding legal markOk
+legal-fault r e m =
+    elim (or-cases (eqb (fault (key r) (r .amount)) 0 && statusOk (r .label)) (markOk r) e) [
+      | inl s ↦ eqb-true _ _ (and-split (eqb (fault (key r) (r .amount)) 0) (statusOk (r .label)) s .0)
+      | inr s ↦ absurd (false≢true (rw m at s))
+    ]
+
+pub restatus-legal : (r : Record) → legal r ≡ true → isMark r ≡ false → legal (recordOf (key r) withdrawn (r .amount)) ≡ true
+unfolding legal statusOk
+restatus-legal r e m = rw (legal-fault r e m)
+
+pub cancel-legal : (r : Record) → legal r ≡ true → isBilateral (key r) ≡ true → legal (recordOf (key r) cancelled (r .amount)) ≡ true
+unfolding legal statusOk
+cancel-legal r e b =
+    let t : key r .type ≡ 6 = eqb-true _ _ (and-split (eqb (key r .type) 6) (ltb 0 (key r .counterparty)) b .0) in
+    rw (legal-fault r e (rw t), b)
+
+pub mark-legal : (d : ℕ) → d ≤ 36524 → legal (recordOf (keyOf 0 d markType 0) standing 0) ≡ true
+unfolding legal markOk
+mark-legal d h =
+    let r : Record = recordOf (keyOf 0 d markType 0) standing 0 in
+    or-right (eqb (fault (key r) 0) 0 && statusOk (r .label)) (markOk r) (rw (le-leb d 36524 h))
+
+-- the five words of a new entry, stored at a place
+pub stored-words : (ws : List ℕ) (at : ℕ) (k : Key) (a : ℕ) → at + 5 ≤ length ws → storedAt ws at k a ≡ take at ws ++ encode (recordOf k standing a) ++ drop (at + 5) ws
+unfolding storedAt encode
+stored-words ws at k a h = rw (add-one at, add-two at, add-three at, add-four at) (sets-eq (encode (recordOf k standing a)) ws at h)
+
+pub length-used : (R TM : ℕ) (rs : List Record) → length (usedWords R TM rs) ≡ 3 + 5 * length rs
+unfolding usedWords
+length-used R TM rs = omega (arith, length-encode-all rs)
+
+drop-past : (p q : List ℕ) (n m : ℕ) → length p ≡ n → drop (n + m) (p ++ q) ≡ drop m q
+drop-past p q n m e = rw (← e) (drop-append-add p q m)
+
+stored-laid : {R TM : ℕ} {rs : List Record} {ws : List ℕ} → Fits R TM rs ws → length rs < roomIn (length ws) → (k : Key) (a : ℕ) → storedAt (laid R TM rs ws) (3 + 5 * length rs) k a ≡ usedWords R TM rs ++ encode (recordOf k standing a) ++ drop (3 + 5 * (length rs + 1)) ws
+unfolding laid
+stored-laid {R} {TM} {rs} {ws} f h k a =
+    let n = 3 + 5 * length rs in
+    let u = length-used R TM rs in
+    let l = room-words (length rs + 1) (length ws) (f .long) (omega arith) in
+    let m : 3 + 5 * (length rs + 1) ≡ n + 5 = omega arith in
+    stored-words (laid R TM rs ws) n k a (rw (laid-book f .long) (omega arith))
+    ∙ rw (take-at (usedWords R TM rs) (drop n ws) n u, drop-past (usedWords R TM rs) (drop n ws) n 5 u, drop-drop 5 n ws, m)
+
+pub posted-laid : {R TM : ℕ} {rs : List Record} {ws : List ℕ} → Fits R TM rs ws → length rs < roomIn (length ws) → (k : Key) (a : ℕ) → posted (laid R TM rs ws) k a ≡ laid R TM (rs ++ (recordOf k standing a ∷ [])) ws
+unfolding posted laid usedWords encodeAll encode
+posted-laid {R} {TM} {rs} {ws} f h k a =
+    rw (laid-book f .count, stored-laid f h k a, length-append rs (recordOf k standing a ∷ []), encode-all-append rs (recordOf k standing a ∷ []))
+
+-- entry n of any words, and of laid ones
+pub entry-at : (ws : List ℕ) (n : ℕ) → n < countOf ws → entryAt ws n ≡ getD (entries ws) n noRecord
+unfolding entryAt entries
+entry-at ws n h = rw (← drop-drop (5 * n) 3 ws) (sym (read-at (countOf ws) (drop 3 ws) n noRecord h))
+
+pub entry-at-laid : {R TM : ℕ} {rs : List Record} {ws : List ℕ} → Fits R TM rs ws → (n : ℕ) → n < length rs → entryAt (laid R TM rs ws) n ≡ getD rs n noRecord
+entry-at-laid {R} {TM} {rs} {ws} f n h =
+    let l = laid-book f in
+    entry-at (laid R TM rs ws) n (rw (l .count) h) ∙ ap (λ x. getD x n noRecord) (l .holds)
+
+-- the change of one status, on the words of entries and on the records
+abbrev pub withStatus : ℕ → Record → Record
+withStatus s r = recordOf (key r) s (r .amount)
+
+raised-word : (s t c : ℕ) → raised s (word 3 (typeBits t c 0)) ≡ word 3 (typeBits t c s)
+raised-word s t c = omega arith
+
+raised-entries : (s : ℕ) (rs : List Record) (n : ℕ) (ws : List ℕ) → n < length rs → getD rs n noRecord .label .status ≡ 0 → set (encodeAll rs ++ ws) (5 * n + 2) (raised s (getD (encodeAll rs ++ ws) (5 * n + 2) 0)) ≡ encodeAll (set rs n (withStatus s (getD rs n noRecord))) ++ ws
+unfolding encodeAll encode
+raised-entries s [] n ws h e = absurd (omega arith)
+raised-entries s (r ∷ rs) zero ws h e = rw (e, raised-word s (key r .type) (key r .counterparty))
+raised-entries s (r ∷ rs) (suc n) ws h e =
+    let m : 5 * suc n + 2 ≡ suc (suc (suc (suc (suc (5 * n + 2))))) = omega arith in
+    rw (m, raised-entries s rs n ws (omega arith) e)
+
+pub restatused-laid : (s R TM : ℕ) (rs : List Record) (ws : List ℕ) (n : ℕ) → n < length rs → getD rs n noRecord .label .status ≡ 0 → restatused s (laid R TM rs ws) n ≡ laid R TM (set rs n (withStatus s (getD rs n noRecord))) ws
+unfolding restatused laid usedWords
+restatused-laid s R TM rs ws n h e =
+    let m : 3 + 5 * n + 2 ≡ suc (suc (suc (5 * n + 2))) = omega arith in
+    rw (m, length-set rs n (withStatus s (getD rs n noRecord)), raised-entries s rs n (drop (3 + 5 * length rs) ws) h e)

@@ -1,0 +1,104 @@
+-- Control of a day (01, 'Control of a day').
+use mathlib.Core.Bool.{Bool, not, cond, _&&_}
+use mathlib.Core.List.{List, [], _∷_, _++_, map}
+use Prim.Native.Nat.{ℕ, _+_}
+use lib.Dec.{eqb, leb, ltb}
+use lib.ListN.{length}
+use Rattle.numbers.specs.Sums.{count, countBelow}
+use Rattle.numbers.specs.Tests.{every, any}
+use Rattle.numbers.specs.Causes.{unless, firstOf, ifDone}
+use Rattle.calendar.specs.Calendar.{monthOf}
+use Rattle.rules.specs.Refusals.{notABook, badDay, dayClosed, noRoom}
+use Rattle.rules.specs.Entry.{Record, keyOf, recordOf, key, isStanding, isCancelled, isBilateral, standing, cancelled, partyOk, dayOk, lastParty, markType}
+use Rattle.rules.specs.Words.{isBook, entries, countOf, coefficientOf, toleranceOf, roomIn, laid}
+use Rattle.rules.specs.Book.{isClosed}
+use Rattle.rules.specs.Balance.{dayAhead, balance, isDetected}
+use Rattle.rules.specs.declared.Controlled.{Controlled}
+
+-- a test of parties
+abbrev pub Parties : Type 0
+Parties = ℕ → Bool
+
+-- the parties whose day-ahead balance of the day is detected
+unfoldable pub detectedIn : ℕ → ℕ → ℕ → List Record → Parties
+detectedIn R TM d rs p = partyOk p && isDetected (balance dayAhead R TM p d rs)
+
+-- the day's standing bilateral sales, counterparty above 0, of these parties become cancelled together
+unfoldable pub isDoomed : Parties → ℕ → Record → Bool
+isDoomed who d r =
+    every (isStanding r ∷ eqb (key r .day) d ∷ isBilateral (key r) ∷ who (key r .party) ∷ [])
+
+unfoldable pub cancelOf : Parties → ℕ → List Record → List Record
+cancelOf who d rs = map (λ r. cond (isDoomed who d r) (recordOf (key r) cancelled (r .amount)) r) rs
+
+-- a cancelled entry of this pair on another day of the same month
+abbrev pub isEarlierOrLater : ℕ → Record → Record → Bool
+isEarlierOrLater d r s =
+    every
+    (isCancelled s
+    ∷ eqb (key s .party) (key r .party)
+    ∷ eqb (key s .counterparty) (key r .counterparty)
+    ∷ not (eqb (key s .day) d)
+    ∷ eqb (monthOf (key s .day)) (monthOf d)
+    ∷ [])
+
+-- a party that is the buyer of a repeated pair: one with cancelled entries of this day and of another day of the month
+unfoldable pub isRepeatedBuyer : ℕ → List Record → Parties
+isRepeatedBuyer d rs p =
+    any
+    (λ r. every (isCancelled r ∷ eqb (key r .day) d ∷ eqb (key r .counterparty) p ∷ any (isEarlierOrLater d r) rs ∷ []))
+    rs
+
+-- first pass: over the book at entry; second: each buyer of a repeated pair, over the book after the first
+unfoldable pub firstPass : ℕ → ℕ → ℕ → List Record → Parties
+firstPass R TM d rs = detectedIn R TM d rs
+
+unfoldable pub afterFirst : ℕ → ℕ → ℕ → List Record → List Record
+afterFirst R TM d rs = cancelOf (firstPass R TM d rs) d rs
+
+unfoldable pub secondPass : ℕ → ℕ → ℕ → List Record → Parties
+secondPass R TM d rs p =
+    isRepeatedBuyer d (afterFirst R TM d rs) p && detectedIn R TM d (afterFirst R TM d rs) p
+
+unfoldable pub afterSecond : ℕ → ℕ → ℕ → List Record → List Record
+afterSecond R TM d rs = cancelOf (secondPass R TM d rs) d (afterFirst R TM d rs)
+
+-- no third pass; a mark of the day is appended
+unfoldable pub markOf : ℕ → Record
+markOf d = recordOf (keyOf 0 d markType 0) standing 0
+
+unfoldable pub controlledRecords : ℕ → ℕ → ℕ → List Record → List Record
+controlledRecords R TM d rs = afterSecond R TM d rs ++ (markOf d ∷ [])
+
+-- the call
+unfoldable pub controlCause : List ℕ → ℕ → ℕ
+controlCause ws d =
+    firstOf
+    (unless (isBook ws) notABook
+    ∷ unless (dayOk d) badDay
+    ∷ unless (not (isClosed d (entries ws))) dayClosed
+    ∷ unless (ltb (countOf ws) (roomIn (length ws))) noRoom
+    ∷ [])
+
+unfoldable pub detectedParties : Parties → ℕ
+detectedParties who = countBelow (lastParty + 1) who
+
+unfoldable pub cancelledEntries : ℕ → ℕ → ℕ → List Record → ℕ
+cancelledEntries R TM d rs =
+    count (isDoomed (firstPass R TM d rs) d) rs + count (isDoomed (secondPass R TM d rs) d) (afterFirst R TM d rs)
+
+unfoldable pub controlAnswer : List ℕ → ℕ → Controlled
+controlAnswer ws d =
+    let done : ℕ → ℕ = λ n. ifDone (controlCause ws d) n 0 in
+    record {
+      answer = controlCause ws d;
+      first = done (detectedParties (firstPass (coefficientOf ws) (toleranceOf ws) d (entries ws)));
+      second = done (detectedParties (secondPass (coefficientOf ws) (toleranceOf ws) d (entries ws)));
+      cancelled = done (cancelledEntries (coefficientOf ws) (toleranceOf ws) d (entries ws));
+    }
+
+unfoldable pub controlWords : List ℕ → ℕ → List ℕ
+controlWords ws d =
+    ifDone (controlCause ws d)
+    (laid (coefficientOf ws) (toleranceOf ws) (controlledRecords (coefficientOf ws) (toleranceOf ws) d (entries ws)) ws)
+    ws

@@ -1,0 +1,14 @@
+pub mod Refusals
+pub mod Entry
+pub mod Words
+pub mod Book
+pub mod Balance
+pub mod Month
+pub mod Collateral
+pub mod CaseFigures
+pub mod Control
+pub mod DayFile
+pub mod Ceiling
+pub mod Ledger
+pub mod Compared
+pub mod Order
