@@ -7,7 +7,7 @@ use Prim.Native.Nat.{ℕ, zero, suc, _+_, _<_}
 use native.Mathlib.Nat.{le-of-suc-le-suc, not-suc-le-zero, eq-or-lt-of-le}
 use native.Mathlib.Numerals.{add-one}
 use native.Mathlib.Omega.{arith}
-use lib.ListN.{length, getD}
+use lib.ListN.{length, getD, set}
 use Rattle.numbers.specs.Tests.{every, all, any, allBelow}
 
 pub bool-cases : (b : Bool) → (b ≡ true) ⊎ (b ≡ false)
@@ -128,3 +128,11 @@ pub allBelow-cong : (n : ℕ) (f g : ℕ → Bool) → ((k : ℕ) → k < n → 
 unfolding allBelow
 allBelow-cong zero f g h = refl
 allBelow-cong (suc n) f g h = ap₂ _&&_ (h n (omega arith)) (allBelow-cong n f g (λ k l. h k (omega arith)))
+
+pub all-set : {A : Type 0} (f : A → Bool) (xs : List A) (i : ℕ) (x : A) → all f xs ≡ true → f x ≡ true → all f (set xs i x) ≡ true
+unfolding all
+all-set f [] i x e h = refl
+all-set f (y ∷ ys) zero x e h = and-join (f x) (all f ys) h (and-split (f y) (all f ys) e .1)
+all-set f (y ∷ ys) (suc i) x e h =
+    let s = and-split (f y) (all f ys) e in
+    and-join (f y) _ (s .0) (all-set f ys i x (s .1) h)

@@ -10,7 +10,7 @@ use lib.ListN.{length, getD, set, length-set, length-append}
 use borrow.Author.Tests.{eqb-true, eq-eqb, ne-eqb, ltb-true, ltb-false, lt-ltb, le-ltb}
 use Rattle.numbers.specs.Tests.{all, any}
 use Rattle.numbers.specs.Causes.{unless, firstOf, ifDone}
-use Rattle.numbers.proofs.TestLaws.{bool-cases, and-split, all-append, all-getD}
+use Rattle.numbers.proofs.TestLaws.{all-set, bool-cases, and-split, all-append, all-getD}
 use Rattle.numbers.proofs.CauseLaws.{clear-all, unless-zero, done-same}
 use Rattle.rules.specs.Entry.{Key, Record, recordOf, key, fault, statusOk, legal, isMark, isStanding, isBilateral, standing, withdrawn}
 use Rattle.rules.specs.Words.{isBook, entries, countOf, roomIn, laid}
@@ -84,12 +84,6 @@ and-false false = refl
 never-shut : (k : Key) (rs : List Record) → all isKept rs ≡ true → shutTo k rs ≡ false
 unfolding shutTo isClosed
 never-shut k rs e = rw (never-closed (k .day) rs e) (and-false (isBilateral k))
-
-all-set : {A : Type 0} (f : A → Bool) (xs : List A) (n : ℕ) (y : A) → all f xs ≡ true → f y ≡ true → all f (set xs n y) ≡ true
-unfolding all
-all-set f [] n y e h = refl
-all-set f (x ∷ xs) zero y e h = let s = and-split (f x) (all f xs) e in rw (h, s .1)
-all-set f (x ∷ xs) (suc n) y e h = let s = and-split (f x) (all f xs) e in rw (s .0) (all-set f xs n y (s .1) h)
 
 -- the words show the records
 pub record Shows (base : List ℕ) (R TM : ℕ) (ws : List ℕ) (rs : List Record) : Type 0 where

@@ -1,21 +1,20 @@
 -- Laws of the words of a book: an entry's five words, lists of entries, and the whole book. Assumes nothing.
 use mathlib.Core.Path.{_≡_, refl, sym, ap, ap₂, _∙_}
-use mathlib.Core.Logic.{_⊎_, inl, inr}
-use mathlib.Core.Bool.{Bool, true, false, not, cond, _&&_, _||_}
+use mathlib.Core.Logic.{inl, inr}
+use mathlib.Core.Bool.{Bool, true, false, not, cond, _&&_}
 use mathlib.Core.List.{List, [], _∷_, _++_, append-assoc}
-use Prim.Native.Nat.{ℕ, zero, suc, _+_, _-_, _*_, _/_, _%_, _≤_, _<_, min}
-use native.Mathlib.Nat.{le-refl, div-div-eq-div-mul, mod-add-div'}
-use native.Mathlib.Numerals.{add-one}
+use Prim.Native.Nat.{ℕ, zero, suc, _+_, _-_, _*_, _/_, _%_, _≤_, _<_}
+use native.Mathlib.Nat.{div-div-eq-div-mul, mod-add-div'}
 use native.Mathlib.Omega.{arith}
-use lib.Dec.{eqb, leb, ltb}
-use lib.ListN.{length, getD, take, drop, length-append, length-take, length-drop}
-use lib.Seq.{drop-drop, getD-take, getD-drop}
-use borrow.Author.Tests.{leb-true, eqb-true, le-leb, eq-eqb}
-use Rattle.numbers.specs.Tests.{every, all}
-use Rattle.numbers.specs.Causes.{unless, firstOf}
-use Rattle.numbers.proofs.TestLaws.{and-split, and-join, or-cases, every-holds, holds-every}
-use Rattle.numbers.proofs.CauseLaws.{clear-all, all-clear, unless-zero}
-use Rattle.rules.specs.Entry.{Key, Label, Record, keyOf, recordOf, key, legal, fault, counterpartyOk, amountLimit, statusOk, markOk, partyOk, dayOk, isType, isVolume, isMoney, within, mostMoney, mostVolume, isMark, isStanding, isBilateral}
+use lib.Dec.{eqb, leb}
+use lib.ListN.{length, getD, take, drop, length-append, length-drop}
+use lib.Seq.{take-at, drop-at, drop-drop, getD-take, getD-drop}
+use borrow.Author.Tests.{leb-true, eqb-true, le-leb}
+use Rattle.numbers.specs.Tests.{all}
+use Rattle.numbers.specs.Causes.{unless}
+use Rattle.numbers.proofs.TestLaws.{and-split, and-join, or-cases, every-holds}
+use Rattle.numbers.proofs.CauseLaws.{clear-all, unless-zero}
+use Rattle.rules.specs.Entry.{Key, Label, Record, key, legal, fault, counterpartyOk, amountLimit, statusOk, markOk, partyOk, dayOk, isType, isVolume, isMoney, within, mostMoney, mostVolume, isMark, isStanding, isBilateral}
 use Rattle.rules.specs.Words.{word, kindOf, valueOf, typeBits, encode, decode, entryOk, entriesOk, readEntries, encodeAll, usedWords, laid, isBook, entries, countOf, coefficientOf, toleranceOf, roomIn, kindAt, valueAt}
 
 -- a word is its kind and its value
@@ -38,16 +37,16 @@ pub record Faultless (k : Key) (a : ℕ) : Type 0 where
   pub counterparty : k .counterparty ≤ 999
   pub amount : a ≤ 1000000000000
 
-within-true : (low high x : ℕ) → within low high x ≡ true → (low ≤ x) × (x ≤ high)
+pub within-true : (low high x : ℕ) → within low high x ≡ true → (low ≤ x) × (x ≤ high)
 within-true low high x e =
     let s = and-split (leb low x) (leb x high) e in
     (leb-true low x (s .0), leb-true x high (s .1))
 
-type-range : (t : ℕ) → isType t ≡ true → (1 ≤ t) × (t ≤ 20)
+pub type-range : (t : ℕ) → isType t ≡ true → (1 ≤ t) × (t ≤ 20)
 type-range t e =
     elim (or-cases (isVolume t) (isMoney t) e) [ inl v ↦ (let s = within-true 1 16 t v in omega arith) | inr m ↦ (let s = within-true 17 20 t m in omega arith) ]
 
-counterparty-range : (k : Key) → counterpartyOk k ≡ true → k .counterparty ≤ 999
+pub counterparty-range : (k : Key) → counterpartyOk k ≡ true → k .counterparty ≤ 999
 unfolding counterpartyOk
 counterparty-range k e = go (eqb (k .type) 6) e
   where
@@ -55,7 +54,7 @@ counterparty-range k e = go (eqb (k .type) 6) e
     go true e = leb-true _ _ (and-split (leb (k .counterparty) 999) _ e .0)
     go false e = omega (arith, eqb-true (k .counterparty) 0 e)
 
-amount-range : (t : ℕ) → amountLimit t ≤ 1000000000000
+pub amount-range : (t : ℕ) → amountLimit t ≤ 1000000000000
 unfolding amountLimit
 amount-range t = go (isMoney t)
   where
@@ -66,15 +65,7 @@ amount-range t = go (isMoney t)
 pub no-fault : (k : Key) (a : ℕ) → fault k a ≡ 0 → Faultless k a
 unfolding fault
 no-fault k a e =
-    let c =
-    clear-all
-    (unless (partyOk (k .party)) 3
-    ∷ unless (dayOk (k .day)) 4
-    ∷ unless (isType (k .type)) 5
-    ∷ unless (counterpartyOk k) 6
-    ∷ unless (leb a (amountLimit (k .type))) 7
-    ∷ [])
-    e in
+    let c = clear-all (unless (partyOk (k .party)) 3 ∷ unless (dayOk (k .day)) 4 ∷ unless (isType (k .type)) 5 ∷ unless (counterpartyOk k) 6 ∷ unless (leb a (amountLimit (k .type))) 7 ∷ []) e in
     let p = within-true 1 999 (k .party) (unless-zero _ 2 (c .0)) in
     let d = leb-true (k .day) 36524 (unless-zero _ 3 (c .1 .0)) in
     let t = type-range (k .type) (unless-zero _ 4 (c .1 .1 .0)) in
@@ -102,16 +93,7 @@ status-range l e =
 pub mark-bounds : (r : Record) → markOk r ≡ true → Bounds r
 unfolding markOk
 mark-bounds r e =
-    let h =
-    every-holds
-    (isMark r
-    ∷ dayOk (key r .day)
-    ∷ eqb (key r .party) 0
-    ∷ eqb (key r .counterparty) 0
-    ∷ eqb (r .amount) 0
-    ∷ isStanding r
-    ∷ [])
-    e in
+    let h = every-holds (isMark r ∷ dayOk (key r .day) ∷ eqb (key r .party) 0 ∷ eqb (key r .counterparty) 0 ∷ eqb (r .amount) 0 ∷ isStanding r ∷ []) e in
     omega
     (arith, eqb-true (key r .type) 21 (h .0), leb-true (key r .day) 36524 (h .1 .0), eqb-true (key r .party) 0 (h .1 .1 .0), eqb-true (key r .counterparty) 0 (h .1 .1 .1 .0), eqb-true (r .amount) 0 (h .1 .1 .1 .1 .0), eqb-true (r .label .status) 0 (h .1 .1 .1 .1 .1 .0))
 
@@ -141,18 +123,21 @@ bits t c s ht hc hs =
 pub bits-back : (v : ℕ) → typeBits (v % 256) (v / 256 % 65536) (v / 16777216) ≡ v
 bits-back v = rw (← div-div-eq-div-mul v 256 65536) (omega arith)
 
+pub legal-bits : (r : Record) → legal r ≡ true → Bits (key r .type) (key r .counterparty) (r .label .status)
+legal-bits r e = let b = legal-bounds r e in bits _ _ _ (omega arith) (omega arith) (omega arith)
+
 pub decode-encode : (r : Record) (ws : List ℕ) → legal r ≡ true → decode (encode r ++ ws) ≡ r
 unfolding decode encode
 decode-encode r ws e =
     let b = legal-bounds r e in
-    let t = bits (key r .type) (key r .counterparty) (r .label .status) (omega arith) (omega arith) (omega arith) in
+    let t = legal-bits r e in
     rw (word-value 1 (key r .party) (omega arith), word-value 2 (key r .day) (omega arith), word-value 3 _ (t .fits), t .type, t .counterparty, t .status, word-value 4 (r .amount % 268435456) (omega arith), word-value 5 (r .amount / 268435456) (omega arith), mod-add-div' (r .amount) 268435456)
 
 pub encode-ok : (r : Record) (ws : List ℕ) → legal r ≡ true → entryOk (encode r ++ ws) ≡ true
 unfolding entryOk encode
 encode-ok r ws e =
     let b = legal-bounds r e in
-    let t = bits (key r .type) (key r .counterparty) (r .label .status) (omega arith) (omega arith) (omega arith) in
+    let t = legal-bits r e in
     rw (decode-encode r ws e, e, word-kind 1 (key r .party) (omega arith), word-kind 2 (key r .day) (omega arith), word-kind 3 _ (t .fits), word-kind 4 (r .amount % 268435456) (omega arith), word-kind 5 (r .amount / 268435456) (omega arith))
 
 -- the five words of an entry have their kinds, and its record is legal
@@ -180,13 +165,13 @@ entry-facts ws e =
 pub word-of : (k w : ℕ) → kindOf w ≡ k → word k (valueOf w) ≡ w
 word-of k w e = omega arith
 
-five : (ws : List ℕ) → 5 ≤ length ws → ws ≡ getD ws 0 0 ∷ getD ws 1 0 ∷ getD ws 2 0 ∷ getD ws 3 0 ∷ getD ws 4 0 ∷ drop 5 ws
-five [] h = absurd (omega arith)
-five (a ∷ []) h = absurd (omega arith)
-five (a ∷ b ∷ []) h = absurd (omega arith)
-five (a ∷ b ∷ c ∷ []) h = absurd (omega arith)
-five (a ∷ b ∷ c ∷ d ∷ []) h = absurd (omega arith)
-five (a ∷ b ∷ c ∷ d ∷ e ∷ ws) h = refl
+pub first-five : (ws : List ℕ) → 5 ≤ length ws → ws ≡ getD ws 0 0 ∷ getD ws 1 0 ∷ getD ws 2 0 ∷ getD ws 3 0 ∷ getD ws 4 0 ∷ drop 5 ws
+first-five [] h = absurd (omega arith)
+first-five (a ∷ []) h = absurd (omega arith)
+first-five (a ∷ b ∷ []) h = absurd (omega arith)
+first-five (a ∷ b ∷ c ∷ []) h = absurd (omega arith)
+first-five (a ∷ b ∷ c ∷ d ∷ []) h = absurd (omega arith)
+first-five (a ∷ b ∷ c ∷ d ∷ e ∷ ws) h = refl
 
 -- any words of an entry are what its record is written as
 pub encode-decode : (ws : List ℕ) → 5 ≤ length ws → entryOk ws ≡ true → ws ≡ encode (decode ws) ++ drop 5 ws
@@ -197,7 +182,7 @@ encode-decode ws h e =
     let u = valueAt ws 4 in
     let low : (v + u * 268435456) % 268435456 ≡ v = omega arith in
     let high : (v + u * 268435456) / 268435456 ≡ u = omega arith in
-    five ws h ∙ sym (rw (bits-back (valueAt ws 2), low, high, word-of 1 (getD ws 0 0) (f .kind-0), word-of 2 (getD ws 1 0) (f .kind-1), word-of 3 (getD ws 2 0) (f .kind-2), word-of 4 (getD ws 3 0) (f .kind-3), word-of 5 (getD ws 4 0) (f .kind-4)))
+    first-five ws h ∙ sym (rw (bits-back (valueAt ws 2), low, high, word-of 1 (getD ws 0 0) (f .kind-0), word-of 2 (getD ws 1 0) (f .kind-1), word-of 3 (getD ws 2 0) (f .kind-2), word-of 4 (getD ws 3 0) (f .kind-3), word-of 5 (getD ws 4 0) (f .kind-4)))
 
 -- no unnamed bit is set
 pub record NoUnnamedBits (ws : List ℕ) : Type 0 where
@@ -296,6 +281,19 @@ pub length-laid : (R TM : ℕ) (rs : List Record) (ws : List ℕ) → 3 + 5 * le
 unfolding laid usedWords
 length-laid R TM rs ws h = simp (length-append, length-encode-all, length-drop) (omega arith)
 
+-- the used words of a laid book, and the words past them
+pub length-used : (R TM : ℕ) (rs : List Record) → length (usedWords R TM rs) ≡ 3 + 5 * length rs
+unfolding usedWords
+length-used R TM rs = omega (arith, length-encode-all rs)
+
+pub laid-used : (R TM : ℕ) (rs : List Record) (ws : List ℕ) → take (3 + 5 * length rs) (laid R TM rs ws) ≡ usedWords R TM rs
+unfolding laid
+laid-used R TM rs ws = take-at (usedWords R TM rs) _ _ (length-used R TM rs)
+
+pub laid-past : (R TM : ℕ) (rs : List Record) (ws : List ℕ) → drop (3 + 5 * length rs) (laid R TM rs ws) ≡ drop (3 + 5 * length rs) ws
+unfolding laid
+laid-past R TM rs ws = drop-at (usedWords R TM rs) _ _ (length-used R TM rs)
+
 -- the words of n entries are within a slice that has room for them
 pub room-words : (n lent : ℕ) → 3 ≤ lent → n ≤ roomIn lent → 3 + 5 * n ≤ lent
 room-words n lent h r = omega arith
@@ -332,18 +330,7 @@ pub record IsBookFacts (ws : List ℕ) : Type 0 where
 pub book-facts : (ws : List ℕ) → isBook ws ≡ true → IsBookFacts ws
 unfolding isBook entries
 book-facts ws e =
-    let h =
-    every-holds
-    (leb 3 (length ws)
-    ∷ kindAt ws 0 6
-    ∷ kindAt ws 1 7
-    ∷ kindAt ws 2 8
-    ∷ leb (coefficientOf ws) 1000
-    ∷ leb (toleranceOf ws) 200000000
-    ∷ leb (countOf ws) (roomIn (length ws))
-    ∷ entriesOk (countOf ws) (drop 3 ws)
-    ∷ [])
-    e in
+    let h = every-holds (leb 3 (length ws) ∷ kindAt ws 0 6 ∷ kindAt ws 1 7 ∷ kindAt ws 2 8 ∷ leb (coefficientOf ws) 1000 ∷ leb (toleranceOf ws) 200000000 ∷ leb (countOf ws) (roomIn (length ws)) ∷ entriesOk (countOf ws) (drop 3 ws) ∷ []) e in
     let s = h .1 .1 .1 .1 .1 .1 .1 .0 in
     record {
       long = leb-true _ _ (h .0);
@@ -375,11 +362,11 @@ encode-read (suc n) ws h e =
     ∙ ap (λ l. encode (decode ws) ++ l) ih
     ∙ rw (m, ← drop-drop (5 * n) 5 ws, append-assoc)
 
-pub three : (ws : List ℕ) → 3 ≤ length ws → ws ≡ getD ws 0 0 ∷ getD ws 1 0 ∷ getD ws 2 0 ∷ drop 3 ws
-three [] h = absurd (omega arith)
-three (a ∷ []) h = absurd (omega arith)
-three (a ∷ b ∷ []) h = absurd (omega arith)
-three (a ∷ b ∷ c ∷ ws) h = refl
+pub first-three : (ws : List ℕ) → 3 ≤ length ws → ws ≡ getD ws 0 0 ∷ getD ws 1 0 ∷ getD ws 2 0 ∷ drop 3 ws
+first-three [] h = absurd (omega arith)
+first-three (a ∷ []) h = absurd (omega arith)
+first-three (a ∷ b ∷ []) h = absurd (omega arith)
+first-three (a ∷ b ∷ c ∷ ws) h = refl
 
 -- any book is laid over itself
 pub book-laid : (ws : List ℕ) → isBook ws ≡ true → ws ≡ laid (coefficientOf ws) (toleranceOf ws) (entries ws) ws
@@ -388,7 +375,7 @@ book-laid ws e =
     let f = book-facts ws e in
     let n = countOf ws in
     let h = room-words n (length ws) (f .long) (f .room) in
-    three ws (f .long)
+    first-three ws (f .long)
     ∙ ap (λ l. getD ws 0 0 ∷ getD ws 1 0 ∷ getD ws 2 0 ∷ l) (encode-read n (drop 3 ws) (simp length-drop (omega arith)) (f .sound))
     ∙ sym (rw (length-read n (drop 3 ws), word-of 6 (getD ws 0 0) (f .kind-0), word-of 7 (getD ws 1 0) (f .kind-1), word-of 8 (getD ws 2 0) (f .kind-2), ← drop-drop (5 * n) 3 ws))
 
@@ -399,7 +386,7 @@ Agree n ws vs = (i : ℕ) → i < n → getD ws i 0 ≡ getD vs i 0
 pub agree-take : (n : ℕ) (ws vs : List ℕ) → take n ws ≡ take n vs → Agree n ws vs
 agree-take n ws vs e i h = sym (getD-take n ws i 0 h) ∙ ap (λ l. getD l i 0) e ∙ getD-take n vs i 0 h
 
-agree-drop : (k n : ℕ) (ws vs : List ℕ) → Agree (k + n) ws vs → Agree n (drop k ws) (drop k vs)
+pub agree-drop : (k n : ℕ) (ws vs : List ℕ) → Agree (k + n) ws vs → Agree n (drop k ws) (drop k vs)
 agree-drop k n ws vs a i h = rw (getD-drop k ws i 0, getD-drop k vs i 0) (a (k + i) (omega arith))
 
 pub decode-agree : (ws vs : List ℕ) → Agree 5 ws vs → decode ws ≡ decode vs
