@@ -6,7 +6,7 @@ use mathlib.Core.Path.{_≡_, refl}
 use Prim.Native.Nat.{ℕ, _+_, _/_, _%_}
 use lib.Dec.{eqb}
 use lib.IntN.{ℤ, pos, negℤ}
-use lib.ListN.{length, replicate, take}
+use lib.ListN.{length, replicate, set, take}
 use lib.Signed.{leZ}
 use Rattle.numbers.specs.Sums.{sum, total, count, countBelow}
 use Rattle.numbers.specs.Tests.{every, all, any}
@@ -272,6 +272,23 @@ further =
     ∷ eqb (withdrawCause oneDay 1) 8
     ∷ eqb (withdrawCause oneDay 0) 10
     ∷ eqb (controlCause oneDay 9000) 8
+    -- what is no book: a word of another kind, a count past the slice, R and TM out of range, a bit set that has no name
+    ∷ isBook oneDay
+    ∷ not (isBook (set oneDay 4 0x30002328))
+    ∷ not (isBook (set oneDay 0 0x6000000B))
+    ∷ not (isBook (set oneDay 1 0x700003E9))
+    ∷ not (isBook (set oneDay 2 0x8BEBC201))
+    ∷ not (isBook (set oneDay 3 0x10010001))
+    ∷ not (isBook (set oneDay 7 0x50001000))
+    -- status 3, status 2 of an export, a withdrawn mark, a mark with an amount, a sale to itself, an amount above 10^9
+    ∷ not (isBook (set oneDay 5 0x33000206))
+    ∷ not (isBook (set oneDay 5 0x32000006))
+    ∷ not (isBook (set oneDay 15 0x31000015))
+    ∷ not (isBook (set oneDay 16 0x40000001))
+    ∷ not (isBook (set oneDay 5 0x32000106))
+    ∷ not (isBook (set oneDay 7 0x50000004))
+    -- words after the last entry are never read
+    ∷ isBook (set oneDay 18 0xFFFFFFFF)
     ∷ isDate (dateOf 36524) 2099 12 31
     ∷ isDate (dateOf 9000) 2024 8 22
     ∷ []
