@@ -1,0 +1,64 @@
+// The lengths and ranges of month tables (01, 'Month step', 'Why a call comes back').
+ghost use mathlib.Core.Path.{_≡_};
+ghost use mathlib.Core.List.{[], _∷_};
+ghost use Prim.Native.Nat.{_*_};
+ghost use lib.Dec.{eqb, leb};
+ghost use Rattle.numbers.specs.Tests.{every, all};
+ghost use Rattle.rules.specs.Month.{mostHours, mostPrice, volumeOk, tablesOf, monthCause};
+
+const MOST_HOURS: usize = 745;
+
+const MOST_ROWS: u32 = 64;
+
+const MOST_PRICE: u32 = 1000000;
+
+const MOST_VOLUME: u64 = 10000000;
+
+// The lowest cause that holds: 11, 12, or 0 for none.
+pub fn cause(prices: &[u32], imbalance: &[i32], rows: u32, dm: &[i32], group: u32) -> u32
+    ensures { λ r. ⌜ r ≡ monthCause (tablesOf (now (prices .entry)) (now (imbalance .entry)) rows (now (dm .entry)) group) ⌝ }
+{
+    if !lengths_agree(prices.len(), imbalance.len(), rows, dm.len()) {
+        return 11;
+    }
+    let places = (1 <= rows) & (rows <= MOST_ROWS) & (group < rows);
+    if !(places & prices_ok(prices) & volumes_ok(imbalance) & volumes_ok(dm)) {
+        return 12;
+    }
+    0
+}
+
+// With at most 745 hours no number of rows makes the product wrap.
+fn lengths_agree(hours: usize, volumes: usize, rows: u32, dms: usize) -> bool
+    ensures { λ r. ⌜ r ≡ every (leb hours mostHours ∷ eqb volumes (rows * hours) ∷ eqb dms hours ∷ []) ⌝ }
+{
+    if hours > MOST_HOURS {
+        return false;
+    }
+    (volumes == (rows as usize) * hours) & (dms == hours)
+}
+
+fn prices_ok(prices: &[u32]) -> bool
+    ensures { λ r. ⌜ r ≡ all (λ price. leb price mostPrice) (now (prices .entry)) ⌝ }
+{
+    let mut ok = true;
+    let mut h = 0;
+    while h < prices.len() {
+        ok = ok & (prices[h] <= MOST_PRICE);
+        h += 1;
+    }
+    ok
+}
+
+// Imbalance or DM: each within ±10,000,000. No branch in the loop, as legal tables are read to the end.
+fn volumes_ok(volumes: &[i32]) -> bool
+    ensures { λ r. ⌜ r ≡ all volumeOk (now (volumes .entry)) ⌝ }
+{
+    let mut ok = true;
+    let mut i = 0;
+    while i < volumes.len() {
+        ok = ok & (numbers::magnitude(volumes[i]) <= MOST_VOLUME);
+        i += 1;
+    }
+    ok
+}
