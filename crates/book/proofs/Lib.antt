@@ -1,0 +1,4 @@
+pub mod Ladder
+pub mod BookCode
+pub mod EntryWords
+pub mod Calls

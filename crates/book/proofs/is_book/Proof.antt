@@ -1,0 +1,66 @@
+-- `book::is_book` meets its contract. Assumes nothing.
+use native.Mathlib.Omega.{arith}
+use borrow.Author.Needs.{needs}
+use Rattle.book.proofs.BookCode.{too-short, head-fails, head-holds, head-room}
+use Rattle.book.proofs.is_book.Statement.{statement}
+use Rattle.book.proofs.is_book.Tie as tie
+
+returns : tie.Need-returns
+returns c = too-short (c .before .before .args .book .now) (c .if1 .taken)
+
+shared-slice-read-count : tie.Need-shared-slice-read-count
+shared-slice-read-count c = search needs
+
+cast-count : tie.Need-cast-count
+cast-count c = search needs
+
+shared-slice-read-head : tie.Need-shared-slice-read-head
+shared-slice-read-head c = search needs
+
+shared-slice-read-head-2 : tie.Need-shared-slice-read-head-2
+shared-slice-read-head-2 c = search needs
+
+shared-slice-read-head-3 : tie.Need-shared-slice-read-head-3
+shared-slice-read-head-3 c = search needs
+
+shared-slice-read-head-4 : tie.Need-shared-slice-read-head-4
+shared-slice-read-head-4 c = search needs
+
+shared-slice-read-head-5 : tie.Need-shared-slice-read-head-5
+shared-slice-read-head-5 c = search needs
+
+room-requires : tie.Need-room-requires
+room-requires c κs = search needs
+
+returns-2 : tie.Need-returns-2
+returns-2 c =
+    let ws = c .before .before .before .before .before .before .before .before .before .before .args .book .now in
+    head-fails ws (omega arith) (c .before .room .ensures) (c .if2 .taken)
+
+entries-ok-requires : tie.Need-entries-ok-requires
+entries-ok-requires c κs =
+    let ws = c .before .before .before .before .before .before .before .before .before .before .args .book .now in
+    head-room ws (omega arith) (c .before .room .ensures) (c .if2 .left)
+
+returns-3 : tie.Need-returns-3
+returns-3 c =
+    let b = c .before in
+    let ws = b .before .before .before .before .before .before .before .before .before .before .args .book .now in
+    head-holds ws (omega arith) (b .before .room .ensures) (b .if2 .left) (c .entries-ok .ensures)
+
+pub is-book-spec : {M : Type 1} → statement M
+is-book-spec =
+    tie.close
+    (tie.spec
+    returns
+    shared-slice-read-count
+    cast-count
+    shared-slice-read-head
+    shared-slice-read-head-2
+    shared-slice-read-head-3
+    shared-slice-read-head-4
+    shared-slice-read-head-5
+    room-requires
+    returns-2
+    entries-ok-requires
+    returns-3)

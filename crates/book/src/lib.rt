@@ -1,0 +1,194 @@
+// The book in lent words: is it a book, open, post, withdraw, the number of entries and one entry (document 01, 'The words', 'Entry types').
+ghost use mathlib.Core.Path.{_≡_};
+ghost use lib.ListN.{length};
+ghost use Rattle.rules.specs.Entry.{keyOf};
+ghost use Rattle.rules.specs.Words.{isBook};
+ghost use Rattle.rules.specs.Book.{openCause, openWords, defaultCoefficient, defaultTolerance, postCause, postAnswer, postWords, withdrawCause, withdrawWords, countAnswer, noRead, readAnswer};
+use refusals::BAD_FIGURE;
+use refusals::BAD_LENGTH;
+use refusals::DAY_CLOSED;
+use refusals::NO_ENTRY;
+use refusals::NO_ROOM;
+use refusals::NOT_A_BOOK;
+use rules::Counted;
+use rules::EntryRead;
+use rules::Posted;
+use words::COEFFICIENT_WORD;
+use words::COUNT_WORD;
+use words::KIND;
+use words::MOST_COEFFICIENT;
+use words::MOST_TOLERANCE;
+use words::TOLERANCE_WORD;
+use words::WITHDRAWN;
+
+pub mod refusals;
+pub mod words;
+
+// Whether the words are a book.
+pub fn is_book(book: &[u32]) -> bool
+    ensures { λ r. ⌜ r ≡ isBook (now (book .entry)) ⌝ }
+{
+    if book.len() < 3 {
+        return false;
+    }
+    let count = (book[0] % KIND) as usize;
+    let head = (book[0] / KIND == 6)
+        & (book[1] / KIND == 7)
+        & (book[2] / KIND == 8)
+        & (book[1] % KIND <= MOST_COEFFICIENT)
+        & (book[2] % KIND <= MOST_TOLERANCE)
+        & (count <= words::room(book.len()));
+    if !head {
+        return false;
+    }
+    words::entries_ok(book, count)
+}
+
+// Opens a book with coefficient R and tolerance amount TM: three words are written and no other.
+pub fn open(book: &mut [u32], coefficient: u32, tolerance: u32) -> u32
+    ensures answer { λ r. ⌜ r ≡ openCause (length (now (book .entry))) coefficient tolerance ⌝ }
+    ensures words { λ r. ⌜ now (book .exit) ≡ openWords (now (book .entry)) coefficient tolerance ⌝ }
+{
+    if book.len() < 3 {
+        return BAD_LENGTH;
+    }
+    if MOST_COEFFICIENT < coefficient {
+        return BAD_FIGURE;
+    }
+    if MOST_TOLERANCE < tolerance {
+        return BAD_FIGURE;
+    }
+    book[0] = COUNT_WORD;
+    book[1] = COEFFICIENT_WORD + coefficient;
+    book[2] = TOLERANCE_WORD + tolerance;
+    0
+}
+
+// Opens a book with the figures of document 004, Article 11.
+pub fn open_default(book: &mut [u32]) -> u32
+    ensures answer { λ r. ⌜ r ≡ openCause (length (now (book .entry))) defaultCoefficient defaultTolerance ⌝ }
+    ensures words { λ r. ⌜ now (book .exit) ≡ openWords (now (book .entry)) defaultCoefficient defaultTolerance ⌝ }
+{
+    open(book, 110, 600000)
+}
+
+fn post_cause(
+    book: &[u32],
+    party: u32,
+    day: u32,
+    entry_type: u32,
+    counterparty: u32,
+    amount: u64,
+) -> u32
+    ensures { λ r. ⌜ r ≡ postCause (now (book .entry)) (keyOf party day «entry_type» counterparty) amount ⌝ }
+{
+    if !is_book(book) {
+        return NOT_A_BOOK;
+    }
+    let fault = words::fault_of(party, day, entry_type, counterparty, amount);
+    if fault != 0 {
+        return fault;
+    }
+    if words::shut_to(book, day, entry_type, counterparty) {
+        return DAY_CLOSED;
+    }
+    let count = words::count_of(book) as usize;
+    if words::room(book.len()) <= count {
+        return NO_ROOM;
+    }
+    0
+}
+
+// Appends one standing entry and answers its number, counted from 0.
+pub fn post(
+    book: &mut [u32],
+    party: u32,
+    day: u32,
+    entry_type: u32,
+    counterparty: u32,
+    amount: u64,
+) -> Posted
+    ensures answer { λ r. ⌜ r ≡ postAnswer (now (book .entry)) (keyOf party day «entry_type» counterparty) amount ⌝ }
+    ensures words { λ r. ⌜ now (book .exit) ≡ postWords (now (book .entry)) (keyOf party day «entry_type» counterparty) amount ⌝ }
+{
+    let cause = post_cause(book, party, day, entry_type, counterparty, amount);
+    if cause != 0 {
+        return Posted {
+            answer: cause,
+            number: 0,
+        };
+    }
+    let number = words::count_of(book);
+    let at = words::place_of(number);
+    words::store_entry(book, at, party, day, entry_type, counterparty, amount);
+    book[0] = COUNT_WORD + (number + 1);
+    Posted { answer: 0, number }
+}
+
+fn withdraw_cause(book: &[u32], number: u32) -> u32
+    ensures { λ r. ⌜ r ≡ withdrawCause (now (book .entry)) number ⌝ }
+{
+    if !is_book(book) {
+        return NOT_A_BOOK;
+    }
+    if words::count_of(book) <= number {
+        return NO_ENTRY;
+    }
+    words::kept_at(book, words::place_of(number))
+}
+
+// Gives the entry of this number status 1. Its place is not used again.
+pub fn withdraw(book: &mut [u32], number: u32) -> u32
+    ensures answer { λ r. ⌜ r ≡ withdrawCause (now (book .entry)) number ⌝ }
+    ensures words { λ r. ⌜ now (book .exit) ≡ withdrawWords (now (book .entry)) number ⌝ }
+{
+    let cause = withdraw_cause(book, number);
+    if cause != 0 {
+        return cause;
+    }
+    words::set_status(book, number as usize, WITHDRAWN);
+    0
+}
+
+// The number of entries, of every status.
+pub fn count(book: &[u32]) -> Counted
+    ensures { λ r. ⌜ r ≡ countAnswer (now (book .entry)) ⌝ }
+{
+    if !is_book(book) {
+        return Counted {
+            answer: NOT_A_BOOK,
+            count: 0,
+        };
+    }
+    Counted {
+        answer: 0,
+        count: words::count_of(book),
+    }
+}
+
+fn no_read(cause: u32) -> EntryRead
+    ensures { λ r. ⌜ r ≡ noRead cause ⌝ }
+{
+    EntryRead {
+        answer: cause,
+        party: 0,
+        day: 0,
+        entry_type: 0,
+        counterparty: 0,
+        status: 0,
+        amount: 0,
+    }
+}
+
+// One entry by its number.
+pub fn entry(book: &[u32], number: u32) -> EntryRead
+    ensures { λ r. ⌜ r ≡ readAnswer (now (book .entry)) number ⌝ }
+{
+    if !is_book(book) {
+        return no_read(NOT_A_BOOK);
+    }
+    if words::count_of(book) <= number {
+        return no_read(NO_ENTRY);
+    }
+    words::read_at(book, words::place_of(number))
+}
