@@ -1,0 +1,64 @@
+-- `collateral::items::collateral_of` meets its contract. Assumes nothing.
+use Prim.Native.Nat.{_+_, _≤_}
+use native.Mathlib.Omega.{arith}
+use Rattle.collateral.proofs.CaseLaws.{total-fits, items-are}
+use borrow.Author.Needs.{needs}
+use Rattle.collateral.proofs.items.collateral_of.Statement.{statement}
+use Rattle.collateral.proofs.items.collateral_of.Tie as tie
+
+abbrev start : tie.After-larger → tie.Start
+start c = c .before .before .before .before .before .before .before
+
+sum-fits : (c : tie.After-larger) → c .larger .result + c .before .before .before .imbalance-of .result + c .before .before .risk-of .result + c .before .yek-of .result ≤ 8854500000000000
+sum-fits c =
+    total-fits (start c .args .case) (start c .args .book .now) (start c .pre .0) (start c .pre .1)
+    (c .before .before .before .before .before .margin-of .ensures) (c .before .before .before .before .trading-of .ensures) (c .before .before .before .imbalance-of .ensures)
+    (c .before .before .risk-of .ensures) (c .before .yek-of .ensures) (c .larger .ensures)
+
+margin-of-requires : tie.Need-margin-of-requires
+margin-of-requires c κs = search needs
+
+trading-of-requires : tie.Need-trading-of-requires
+trading-of-requires c κs = search needs
+
+imbalance-of-requires : tie.Need-imbalance-of-requires
+imbalance-of-requires c κs = search needs
+
+risk-of-requires : tie.Need-risk-of-requires
+risk-of-requires c κs = search needs
+
+yek-of-requires : tie.Need-yek-of-requires
+yek-of-requires c κs = search needs
+
+larger-requires : tie.Need-larger-requires
+larger-requires c κs = search needs
+
+add-t9 : tie.Need-add-t9
+add-t9 c = omega (arith, sum-fits c)
+
+add-t10 : tie.Need-add-t10
+add-t10 c = omega (arith, sum-fits c)
+
+add-t11 : tie.Need-add-t11
+add-t11 c = omega (arith, sum-fits c)
+
+returns : tie.Need-returns
+returns c =
+    items-are (start c .args .case) (start c .args .book .now) (start c .pre .0) (start c .pre .1)
+    (c .before .before .before .before .before .margin-of .ensures) (c .before .before .before .before .trading-of .ensures) (c .before .before .before .imbalance-of .ensures)
+    (c .before .before .risk-of .ensures) (c .before .yek-of .ensures) (c .larger .ensures)
+
+pub collateral-of-spec : {M : Type 1} → statement M
+collateral-of-spec =
+    tie.close
+    (tie.spec
+    margin-of-requires
+    trading-of-requires
+    imbalance-of-requires
+    risk-of-requires
+    yek-of-requires
+    larger-requires
+    add-t9
+    add-t10
+    add-t11
+    returns)

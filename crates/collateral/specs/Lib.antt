@@ -1,0 +1,3 @@
+pub mod Months
+pub mod Window
+pub mod Walk

@@ -1,0 +1,54 @@
+// Collateral: each item and the total of a case (document 01, 'Collateral').
+ghost use mathlib.Core.Path.{_≡_};
+ghost use Rattle.rules.specs.Collateral.{collateralCause, collateralAnswer};
+use book::refusals::BAD_DAY;
+use book::refusals::BAD_FIGURE;
+use book::refusals::BAD_PARTY;
+use book::refusals::NOT_A_BOOK;
+use book::words;
+use rules::Case;
+use rules::Collateral;
+
+mod debts;
+mod items;
+mod months;
+mod ranges;
+mod window;
+
+// The lowest cause that holds, or 0: no book, party, day, another figure.
+fn cause_of(book: &[u32], case: Case) -> u32
+    ensures { λ r. ⌜ r ≡ collateralCause (now (book .entry)) case ⌝ }
+{
+    if !book::is_book(book) {
+        return NOT_A_BOOK;
+    }
+    if !words::party_ok(case.asked.party) {
+        return BAD_PARTY;
+    }
+    if !words::day_ok(case.asked.day) {
+        return BAD_DAY;
+    }
+    if !ranges::figures_ok(case) {
+        return BAD_FIGURE;
+    }
+    0
+}
+
+// Margin, trading, imbalance, risk, YEK and the total, or the cause.
+pub fn collateral(book: &[u32], case: Case) -> Collateral
+    ensures { λ r. ⌜ r ≡ collateralAnswer (now (book .entry)) case ⌝ }
+{
+    let cause = cause_of(book, case);
+    if cause != 0 {
+        return Collateral {
+            answer: cause,
+            margin: 0,
+            trading: 0,
+            imbalance: 0,
+            risk: 0,
+            yek: 0,
+            total: 0,
+        };
+    }
+    items::collateral_of(book, case)
+}

@@ -1,0 +1,3 @@
+pub mod BalanceLaws
+pub mod TallyLaws
+pub mod AnswerLaws

@@ -1,0 +1,37 @@
+-- `position::parts::balanced` meets its contract. Assumes nothing.
+use mathlib.Core.Path.{_∙_}
+use Prim.Native.Nat.{_*_}
+use native.Mathlib.Nat.{mul-le-mul}
+use native.Mathlib.Omega.{arith}
+use mir.Syntax.{w64}
+use mir.ValLaws.{toZ-ofZ}
+use borrow.Author.Needs.{needs}
+use Rattle.position.proofs.BalanceLaws.{less-larger}
+use Rattle.position.proofs.parts.balanced.Statement.{statement}
+use Rattle.position.proofs.parts.balanced.Tie as tie
+
+mul-least : tie.Need-mul-least
+mul-least c = search needs
+
+mul-held : tie.Need-mul-held
+mul-held c = omega (arith, mul-le-mul (c .pre .1) (c .pre .2))
+
+mul-difference : tie.Need-mul-difference
+mul-difference c = search needs
+
+larger-requires : tie.Need-larger-requires
+larger-requires c κs = search needs
+
+difference-requires : tie.Need-difference-requires
+difference-requires c κs = omega (arith, mul-le-mul (c .before .pre .1) (c .before .pre .2))
+
+returns : tie.Need-returns
+returns c =
+    let a = c .before .before .args in
+    toZ-ofZ w64 (c .difference .result) (record { sfits = c .difference .ok })
+    ∙ less-larger (100 * a .sale) (100 * a .tolerance) (a .cover * a .coefficient) (c .before .larger .ensures) (c .difference .ensures)
+
+pub balanced-spec : {M : Type 1} → statement M
+balanced-spec =
+    tie.close
+    (tie.spec mul-least mul-held mul-difference larger-requires difference-requires returns)

@@ -1,0 +1,82 @@
+-- `position::parts::delivery_of` meets its contract. Assumes nothing.
+use mathlib.Core.Path.{_∙_}
+use native.Mathlib.Omega.{arith}
+use mir.Syntax.{w64}
+use mir.ValLaws.{toZ-ofZ}
+use borrow.Author.Needs.{needs}
+use Rattle.rules.specs.Balance.{delivery}
+use Rattle.position.proofs.BalanceLaws.{each-sum, sale-within, cover-within, sale-delivery, cover-delivery, balance-is}
+use Rattle.position.proofs.parts.delivery_of.Statement.{statement}
+use Rattle.position.proofs.parts.delivery_of.Tie as tie
+
+ahead-sale-requires : tie.Need-ahead-sale-requires
+ahead-sale-requires c κs = search needs
+
+array-read-sale : tie.Need-array-read-sale
+array-read-sale c = search needs
+
+add-sale : tie.Need-add-sale
+add-sale c =
+    let p = c .before .before in
+    let e = each-sum (p .args .t) (p .pre .sums) in
+    omega (arith, sale-within (p .args .t) e)
+
+array-read-sale-2 : tie.Need-array-read-sale-2
+array-read-sale-2 c = search needs
+
+add-sale-2 : tie.Need-add-sale-2
+add-sale-2 c =
+    let p = c .before .before in
+    let e = each-sum (p .args .t) (p .pre .sums) in
+    omega (arith, sale-within (p .args .t) e)
+
+ahead-cover-requires : tie.Need-ahead-cover-requires
+ahead-cover-requires c κs = search needs
+
+array-read-cover : tie.Need-array-read-cover
+array-read-cover c = search needs
+
+add-cover : tie.Need-add-cover
+add-cover c =
+    let p = c .before .before .before in
+    let e = each-sum (p .args .t) (p .pre .sums) in
+    omega (arith, cover-within (p .args .t) (p .args .bought) e (p .pre .bought))
+
+array-read-cover-2 : tie.Need-array-read-cover-2
+array-read-cover-2 c = search needs
+
+add-cover-2 : tie.Need-add-cover-2
+add-cover-2 c =
+    let p = c .before .before .before in
+    let e = each-sum (p .args .t) (p .pre .sums) in
+    omega (arith, cover-within (p .args .t) (p .args .bought) e (p .pre .bought))
+
+balanced-requires : tie.Need-balanced-requires
+balanced-requires c κs =
+    let p = c .before .before .before in
+    let e = each-sum (p .args .t) (p .pre .sums) in
+    omega (arith, sale-within (p .args .t) e, cover-within (p .args .t) (p .args .bought) e (p .pre .bought))
+
+returns : tie.Need-returns
+returns c =
+    let b = c .before in
+    let a = b .before .before .before .args in
+    toZ-ofZ w64 (c .balanced .result) (record { sfits = c .balanced .ok })
+    ∙ balance-is delivery (a .coefficient) (a .tolerance) (a .t) (a .bought) (omega (arith, sale-delivery (a .t))) (omega (arith, cover-delivery (a .t) (a .bought))) (c .balanced .ensures)
+
+pub delivery-of-spec : {M : Type 1} → statement M
+delivery-of-spec =
+    tie.close
+    (tie.spec
+    ahead-sale-requires
+    array-read-sale
+    add-sale
+    array-read-sale-2
+    add-sale-2
+    ahead-cover-requires
+    array-read-cover
+    add-cover
+    array-read-cover-2
+    add-cover-2
+    balanced-requires
+    returns)

@@ -1,0 +1,85 @@
+// The tally of a party's day, and both balances (01, 'The two balances').
+ghost use mathlib.Core.Path.{_≡_};
+ghost use Rattle.rules.specs.Balance.{partyDayCause, tallyAnswer, balanceAnswer, isDetected, dayAhead, delivery};
+use rules::BalanceAnswer;
+use rules::TallyAnswer;
+
+pub mod parts;
+
+// The lowest cause of 1, 3 and 4 that holds, or 0.
+fn cause_of(book: &[u32], party: u32, day: u32) -> u32
+    ensures { λ r. ⌜ r ≡ partyDayCause (now (book .entry)) party day ⌝ }
+{
+    if !book::is_book(book) {
+        return book::refusals::NOT_A_BOOK;
+    }
+    if !book::words::party_ok(party) {
+        return book::refusals::BAD_PARTY;
+    }
+    if !book::words::day_ok(day) {
+        return book::refusals::BAD_DAY;
+    }
+    0
+}
+
+// The sixteen sums and B, which both balances are made of.
+pub fn tally(book: &[u32], party: u32, day: u32) -> TallyAnswer
+    ensures { λ r. ⌜ r ≡ tallyAnswer (now (book .entry)) party day ⌝ }
+{
+    let cause = cause_of(book, party, day);
+    if cause != 0 {
+        return parts::no_tally(cause);
+    }
+    parts::scan(book, party, day)
+}
+
+// Article 7.
+pub fn day_ahead(book: &[u32], party: u32, day: u32) -> BalanceAnswer
+    ensures { λ r. ⌜ r ≡ balanceAnswer dayAhead (now (book .entry)) party day ⌝ }
+{
+    let cause = cause_of(book, party, day);
+    if cause != 0 {
+        return BalanceAnswer {
+            answer: cause,
+            balance: 0,
+        };
+    }
+    let read = parts::scan(book, party, day);
+    let t = read.tally;
+    let balance = parts::day_ahead_of(
+        t,
+        read.bought,
+        book::words::coefficient_of(book),
+        book::words::tolerance_of(book),
+    );
+    BalanceAnswer { answer: 0, balance }
+}
+
+// Article 5.
+pub fn delivery(book: &[u32], party: u32, day: u32) -> BalanceAnswer
+    ensures { λ r. ⌜ r ≡ balanceAnswer delivery (now (book .entry)) party day ⌝ }
+{
+    let cause = cause_of(book, party, day);
+    if cause != 0 {
+        return BalanceAnswer {
+            answer: cause,
+            balance: 0,
+        };
+    }
+    let read = parts::scan(book, party, day);
+    let t = read.tally;
+    let balance = parts::delivery_of(
+        t,
+        read.bought,
+        book::words::coefficient_of(book),
+        book::words::tolerance_of(book),
+    );
+    BalanceAnswer { answer: 0, balance }
+}
+
+// Above zero is detected; zero is clear.
+pub fn detected(balance: i64) -> bool
+    ensures { λ r. ⌜ r ≡ isDetected balance ⌝ }
+{
+    0 < balance
+}
