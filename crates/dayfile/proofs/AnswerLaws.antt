@@ -1,0 +1,80 @@
+-- The answer to a file, from the closed days in a table and a scan of its items. Assumes nothing.
+use mathlib.Core.Path.{_≡_, refl, sym, _∙_, ap, ap₂}
+use mathlib.Core.Logic.{inl, inr}
+use mathlib.Core.Bool.{Bool, true, false, not, cond, _&&_, _||_}
+use mathlib.Core.List.{List, [], _∷_, _++_, map}
+use Prim.Native.Nat.{ℕ, zero, suc, _+_, _-_, _*_, _%_, _≤_, _<_}
+use native.Mathlib.Omega.{arith}
+use lib.Dec.{eqb, leb, ltb}
+use lib.ListN.{length, getD, replicate, getD-replicate}
+use borrow.Author.Tests.{leb-true, le-leb, lt-leb}
+use Rattle.numbers.specs.Causes.{unless, orElse, firstOf, ifDone}
+use Rattle.numbers.proofs.TestLaws.{every-holds}
+use Rattle.rules.specs.Entry.{Key, Record, fault, isBilateral}
+use Rattle.rules.specs.Words.{isBook, entries, countOf, roomIn}
+use Rattle.rules.specs.Book.{isClosed, shutTo}
+use Rattle.rules.specs.DayFile.{Item, line, emptyBlock, itemCause, items, linesOf, isFile, isShaped, wordsOf, mostBytes, fileCause, fileAnswer}
+use Rattle.rules.specs.declared.FileRead.{FileRead}
+use Rattle.rules.proofs.WordLaws.{no-fault}
+use Rattle.dayfile.specs.Check.{tableDays, causeBy, firstCause, scanned}
+use Rattle.dayfile.proofs.CheckLaws.{else-stop, else-none}
+
+-- a file is no longer than a file may be
+pub file-bytes : (bs : List ℕ) → isFile bs ≡ true → length bs ≤ 65536
+unfolding isFile
+file-bytes bs e =
+    leb-true (length bs) 65536 (every-holds (leb (length bs) 65536 ∷ eqb (length bs % 4) 0 ∷ isShaped 0 (wordsOf bs) ∷ []) e .0)
+
+-- the table says of each day what the book says
+abbrev pub TableOf : List Bool → List Record → Type 0
+TableOf cs rs = (d : ℕ) → d < tableDays → getD cs d false ≡ isClosed d rs
+
+cause-by-table : (cs : List Bool) (rs : List Record) → TableOf cs rs → (i : Item) → causeBy cs i ≡ itemCause rs i
+unfolding causeBy itemCause shutTo
+cause-by-table cs rs t (line k a) = go (fault k a) refl
+  where
+    go : (f : ℕ) → fault k a ≡ f → causeBy cs (line k a) ≡ itemCause rs (line k a)
+    go zero e = rw (e, t (k .day) (omega (arith, no-fault k a e .day)))
+    go (suc f) e = rw e
+cause-by-table cs rs t (emptyBlock p d) = refl
+
+causes-by-table : (cs : List Bool) (rs : List Record) → TableOf cs rs → (is : List Item) → firstCause cs is ≡ firstOf (map (itemCause rs) is)
+causes-by-table cs rs t [] = refl
+causes-by-table cs rs t (i ∷ is) = ap₂ orElse (cause-by-table cs rs t i) (causes-by-table cs rs t is)
+
+module _ (ws bs : List ℕ) (cs : List Bool) (book : isBook ws ≡ true) (file : isFile bs ≡ true) (table : TableOf cs (entries ws)) where
+  cause-of-file : fileCause ws bs ≡ orElse (firstCause cs (items bs)) (unless (leb (countOf ws + length (linesOf (items bs))) (roomIn (length ws))) 9)
+  unfolding fileCause
+  cause-of-file = rw (book, file, causes-by-table cs (entries ws) table (items bs), else-none (unless (leb (countOf ws + length (linesOf (items bs))) (roomIn (length ws))) 9))
+
+  abbrev linesIn : ℕ
+  linesIn = length (linesOf (items bs))
+
+  -- the answer by its cause
+  answer-by : {k n : ℕ} → fileCause ws bs ≡ k → ifDone k linesIn 0 ≡ n → _≡_ {A = FileRead} (record { answer = k; posted = n }) (fileAnswer ws bs)
+  unfolding fileAnswer
+  answer-by e q = rw (e, q)
+
+  module _ {r : FileRead} (scan : r ≡ scanned cs (items bs)) where
+    first : r .answer ≡ firstCause cs (items bs)
+    unfolding scanned
+    first = ap (λ x. x .answer) scan
+
+    lines : r .answer ≡ 0 → r .posted ≡ linesIn
+    unfolding scanned
+    lines z = ap (λ x. x .posted) scan ∙ rw (← first, z)
+
+    pub answer-refused : (r .answer ≡ 0 → ⊥) → r ≡ fileAnswer ws bs
+    unfolding scanned
+    answer-refused n =
+        scan ∙ answer-by (cause-of-file ∙ else-stop (firstCause cs (items bs)) _ (λ z. n (first ∙ z))) refl
+
+    pub answer-full : r .answer ≡ 0 → roomIn (length ws) < countOf ws + r .posted → _≡_ {A = FileRead} (record { answer = 9; posted = 0 }) (fileAnswer ws bs)
+    answer-full z h =
+        answer-by (cause-of-file ∙ rw (← first, z, lt-leb (countOf ws + linesIn) (roomIn (length ws)) (rw (← lines z) h))) refl
+
+    pub answer-done : r .answer ≡ 0 → countOf ws + r .posted ≤ roomIn (length ws) → r ≡ fileAnswer ws bs
+    unfolding scanned
+    answer-done z h =
+        scan
+        ∙ answer-by (cause-of-file ∙ rw (← first, z, le-leb (countOf ws + linesIn) (roomIn (length ws)) (rw (← lines z) h))) (rw (← first, z))

@@ -1,0 +1,99 @@
+-- `dayfile::check::close_days` meets its contract. The loop's invariant: a day is closed in the whole if it is closed in the table or among the entries to come. Assumes nothing.
+use mathlib.Core.Path.{refl}
+use mathlib.Core.Bool.{or-false}
+use Rattle.numbers.specs.Tests.{any}
+use Rattle.rules.specs.Words.{decode, countOf}
+use Rattle.rules.specs.Book.{isMarkOf}
+use Rattle.dayfile.proofs.CheckLaws.{table-step}
+use mathlib.Core.Path.{_≡_, sym, _∙_, ap}
+use mathlib.Core.Bool.{false, _||_, or-assoc}
+use Prim.Native.Nat.{ℕ, _≤_, _<_, _+_, _*_, _-_, zero-le}
+use native.Mathlib.Nat.{sub-zero}
+use native.Mathlib.Omega.{arith}
+use lib.ListN.{length, getD, drop}
+use Rattle.rules.specs.Words.{entries, readEntries}
+use Rattle.rules.specs.Book.{isClosed}
+use Rattle.book.proofs.BookCode.{book-long, book-within, book-entry, closed-from}
+use Rattle.dayfile.specs.Check.{tableDays}
+use borrow.Author.Needs.{needs}
+use Rattle.dayfile.proofs.check.close_days.Statement.{statement}
+use Rattle.dayfile.proofs.check.close_days.Tie as tie
+
+abbrev Inv-loop : tie.InvT-loop
+Inv-loop book closed₀ count i₀ closed i =
+    (i ≤ count) × (length closed ≡ length closed₀)
+    × ((d : ℕ) → d < tableDays → getD closed₀ d false || isClosed d (entries book) ≡ getD closed d false || isClosed d (readEntries (count - i) (drop (3 + 5 * i) book)))
+
+abbrev μ-loop : tie.MeasureT-loop
+μ-loop book closed₀ count i₀ closed i = count - i
+
+count-of-requires : tie.Need-count-of-requires Inv-loop μ-loop
+count-of-requires c κs = book-long _ (c .before .before .pre .0)
+
+cast-count : tie.Need-cast-count Inv-loop μ-loop
+cast-count c = search needs
+
+loop-holds : tie.Need-loop-holds Inv-loop μ-loop
+unfolding entries
+loop-holds c =
+    let b = c .before .before .before in
+    (zero-le, refl, λ d _. rw (c .count-of .ensures, sub-zero (countOf (b .args .book .now))))
+
+mul-close-at : tie.Need-mul-close-at Inv-loop μ-loop
+mul-close-at c = search needs
+
+add-close-at : tie.Need-add-close-at Inv-loop μ-loop
+add-close-at c = search needs
+
+close-at-requires : tie.Need-close-at-requires Inv-loop μ-loop
+close-at-requires c κs =
+    let l = c .before .before in
+    let b = l .before .before .before .before in
+    let e = book-entry (b .args .book .now) (b .pre .0) (l .loop .i) (rw (← l .before .count-of .ensures) (c .before .loop-test .taken)) in
+    (e .within, (e .ok, l .loop .inv .1 ∙ b .pre .1))
+
+add-i : tie.Need-add-i Inv-loop μ-loop
+add-i c = search needs
+
+loop-less : tie.Need-loop-less Inv-loop μ-loop
+loop-less c = search needs
+
+loop-again : tie.Need-loop-again Inv-loop μ-loop
+loop-again c =
+    let k = c .before .before in
+    let l = k .before .before .before in
+    let b = l .before .before .before .before in
+    let n = l .before .count-of .result in
+    let ws = b .args .book .now in
+    let i = l .loop .i in
+    (search needs,
+    k .close-at .kept .1 .1 .0 ∙ l .loop .inv .1,
+    λ d h. table-step (getD (l .loop .closed) d false) (isMarkOf d (decode (drop (3 + 5 * i) ws))) (isClosed d (readEntries (n - (i + 1)) (drop (3 + 5 * (i + 1)) ws))) (l .loop .inv .2 d h) (closed-from d n ws i (k .before .before .loop-test .taken)) (k .close-at .ensures d h))
+
+same-length : tie.Need-same-length Inv-loop μ-loop
+same-length c = c .before .loop .inv .1
+
+returns : tie.Need-returns Inv-loop μ-loop
+unfolding readEntries isClosed any
+returns c =
+    let l = c .before in
+    let z : l .before .count-of .result - l .loop .i ≡ 0 = omega arith in
+    λ d h. sym (l .loop .inv .2 d h ∙ rw (z, or-false (getD (l .loop .closed) d false)))
+
+pub close-days-spec : {M : Type 1} → statement M
+close-days-spec =
+    tie.close
+    (tie.spec
+    Inv-loop
+    μ-loop
+    count-of-requires
+    cast-count
+    loop-holds
+    mul-close-at
+    add-close-at
+    close-at-requires
+    add-i
+    loop-less
+    loop-again
+    same-length
+    returns)

@@ -1,0 +1,41 @@
+-- The checks of a file's items with the closed days in a table, and the stores of its lines (01, 'Day file').
+use mathlib.Core.Bool.{Bool, true, false, not, cond, _&&_}
+use mathlib.Core.List.{List, [], _∷_, map}
+use Prim.Native.Nat.{ℕ, _+_}
+use lib.Dec.{eqb}
+use lib.ListN.{length, getD}
+use Rattle.numbers.specs.Causes.{unless, firstOf, ifDone}
+use Rattle.rules.specs.Refusals.{dayClosed}
+use Rattle.rules.specs.Entry.{Key, fault, isBilateral}
+use Rattle.rules.specs.Book.{storedAt}
+use Rattle.rules.specs.DayFile.{Item, line, emptyBlock, itemCause, linesOf}
+use Rattle.rules.specs.declared.FileRead.{FileRead}
+use Rattle.dayfile.specs.declared.Cursor.{Cursor}
+
+-- one place a day
+abbrev pub tableDays : ℕ
+tableDays = 36525
+
+-- the causes of an item, with the closed days looked up in a table
+unfoldable pub causeBy : List Bool → Item → ℕ
+causeBy closed (line k a) =
+    firstOf (fault k a ∷ unless (not (isBilateral k && getD closed (k .day) false)) dayClosed ∷ [])
+causeBy closed (emptyBlock p d) = itemCause [] (emptyBlock p d)
+
+abbrev pub firstCause : List Bool → List Item → ℕ
+firstCause closed is = firstOf (map (causeBy closed) is)
+
+-- a head or line holds one line or none
+abbrev pub linesAt : Cursor → ℕ
+linesAt c = cond (eqb (c .left) 0) 0 1
+
+-- the first cause of the items, and how many lines they have
+unfoldable pub scanned : List Bool → List Item → FileRead
+scanned closed is =
+    record { answer = firstCause closed is; posted = ifDone (firstCause closed is) (length (linesOf is)) 0 }
+
+-- the lines stored one after the other, from a place on
+unfoldable pub storedFrom : List ℕ → ℕ → List Item → List ℕ
+storedFrom ws at [] = ws
+storedFrom ws at (line k a ∷ is) = storedFrom (storedAt ws at k a) (at + 5) is
+storedFrom ws at (emptyBlock p d ∷ is) = storedFrom ws at is

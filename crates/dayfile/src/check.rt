@@ -1,0 +1,170 @@
+// Internal: the causes of a file's items, in file order. A caller meets each `requires`.
+ghost use mathlib.Core.Path.{_≡_};
+ghost use mathlib.Core.Bool.{true, false, _||_};
+ghost use mathlib.Core.List.{[], _∷_, map};
+ghost use Prim.Native.Nat.{ℕ, _+_, _*_, _<_, _≤_};
+ghost use lib.ListN.{length, getD, drop};
+ghost use Rattle.numbers.specs.Causes.{unless, firstOf};
+ghost use Rattle.rules.specs.Entry.{keyOf, partyOk, dayOk, legal};
+ghost use Rattle.rules.specs.Words.{decode, entryOk, isBook, entries};
+ghost use Rattle.rules.specs.Book.{isMarkOf, isClosed};
+ghost use Rattle.rules.specs.DayFile.{Item, line, emptyBlock, itemCause, items, mostBytes, isFile, fileAnswer};
+ghost use Rattle.dayfile.specs.Walk.{isMore, itemsAt};
+ghost use Rattle.dayfile.specs.Check.{tableDays, causeBy, firstCause, linesAt, scanned};
+
+use crate::Cursor;
+use crate::walk;
+use rules::FileRead;
+
+// Marks the day of a mark as closed.
+fn close_at(book: &[u32], at: usize, closed: &mut [bool])
+    requires { ⌜ at + 5 ≤ length (now book) ⌝ }
+    requires { ⌜ entryOk (drop at (now book)) ≡ true ⌝ }
+    requires { ⌜ length (now closed) ≡ tableDays ⌝ }
+    ensures { λ _. ⌜ ((d : ℕ) → d < tableDays → getD (now (closed .exit)) d false ≡ getD (now (closed .entry)) d false || isMarkOf d (decode (drop at (now (book .entry))))) ⌝ }
+{
+    if book::words::type_at(book, at) != 21 {
+        return;
+    }
+    let day = book::words::day_at(book, at) as usize;
+    closed[day] = true;
+}
+
+// The closed days of a book, once, so that no line searches for them again.
+pub fn close_days(book: &[u32], closed: &mut [bool])
+    requires { ⌜ isBook (now book) ≡ true ⌝ }
+    requires { ⌜ length (now closed) ≡ tableDays ⌝ }
+    ensures { λ _. ⌜ ((d : ℕ) → d < tableDays → getD (now (closed .exit)) d false ≡ getD (now (closed .entry)) d false || isClosed d (entries (now (book .entry)))) ⌝ }
+{
+    let count = book::words::count_of(book) as usize;
+    let mut i = 0;
+    while i < count {
+        close_at(book, 3 + 5 * i, closed);
+        i += 1;
+    }
+}
+
+// A block without lines still has its party and day checked.
+pub fn block_cause(party: u32, day: u32) -> u32
+    ensures { λ r. ⌜ r ≡ itemCause [] (emptyBlock party day) ⌝ }
+{
+    if !book::words::party_ok(party) {
+        return 3;
+    }
+    if !book::words::day_ok(day) {
+        return 4;
+    }
+    0
+}
+
+pub fn line_cause(
+    closed: &[bool],
+    party: u32,
+    day: u32,
+    entry_type: u32,
+    counterparty: u32,
+    amount: u64,
+) -> u32
+    requires { ⌜ length (now closed) ≡ tableDays ⌝ }
+    ensures { λ r. ⌜ r ≡ causeBy (now (closed .entry)) (line (keyOf party day «entry_type» counterparty) amount) ⌝ }
+{
+    let cause = book::words::fault_of(party, day, entry_type, counterparty, amount);
+    if cause != 0 {
+        return cause;
+    }
+    if !book::words::is_bilateral(entry_type, counterparty) {
+        return 0;
+    }
+    if closed[day as usize] {
+        return 8;
+    }
+    0
+}
+
+// The cause of what the next head or line holds.
+pub fn cause_at(file: &[u8], closed: &[bool], c: Cursor) -> u32
+    requires { ⌜ isMore (now file) c ≡ true ⌝ }
+    requires { ⌜ length (now closed) ≡ tableDays ⌝ }
+    ensures { λ r. ⌜ r ≡ firstCause (now (closed .entry)) (itemsAt (now (file .entry)) c) ⌝ }
+{
+    let at = c.at;
+    if c.left == 0 {
+        let head = walk::head_at(file, at);
+        if head.left == 0 {
+            return block_cause(head.party, head.day);
+        }
+        return 0;
+    }
+    let next = walk::line_at(file, at);
+    line_cause(
+        closed,
+        c.party,
+        c.day,
+        next.entry_type,
+        next.counterparty,
+        next.amount,
+    )
+}
+
+fn lines_at(c: Cursor) -> u32
+    ensures { λ r. ⌜ r ≡ linesAt c ⌝ }
+{
+    if c.left == 0 { 0 } else { 1 }
+}
+
+// The first cause in file order, and how many lines there are.
+pub fn scan(file: &[u8], closed: &[bool]) -> FileRead
+    requires { ⌜ length (now file) ≤ mostBytes ⌝ }
+    requires { ⌜ length (now closed) ≡ tableDays ⌝ }
+    ensures { λ r. ⌜ r ≡ scanned (now (closed .entry)) (items (now (file .entry))) ⌝ }
+{
+    let mut c = walk::begin();
+    let mut lines: u32 = 0;
+    while walk::more(file, c) {
+        let cause = cause_at(file, closed, c);
+        if cause != 0 {
+            return FileRead {
+                answer: cause,
+                posted: 0,
+            };
+        }
+        lines += lines_at(c);
+        c = walk::advance(file, c);
+    }
+    FileRead {
+        answer: 0,
+        posted: lines,
+    }
+}
+
+// The answer to a file, for a book and a file: what the lines and empty blocks say, then room. `closed` is lent empty.
+fn answer_with(book: &[u32], file: &[u8], closed: &mut [bool]) -> FileRead
+    requires { ⌜ isBook (now book) ≡ true ⌝ }
+    requires { ⌜ isFile (now file) ≡ true ⌝ }
+    requires { ⌜ length (now closed) ≡ tableDays ⌝ }
+    requires { ⌜ ((d : ℕ) → d < tableDays → getD (now closed) d false ≡ false) ⌝ }
+    ensures { λ r. ⌜ r ≡ fileAnswer (now (book .entry)) (now (file .entry)) ⌝ }
+{
+    close_days(book, closed);
+    let found = scan(file, closed);
+    if found.answer != 0 {
+        return found;
+    }
+    let used = book::words::count_of(book) as usize + found.posted as usize;
+    if book::words::room(book.len()) < used {
+        return FileRead {
+            answer: 9,
+            posted: 0,
+        };
+    }
+    found
+}
+
+pub fn answer_of(book: &[u32], file: &[u8]) -> FileRead
+    requires { ⌜ isBook (now book) ≡ true ⌝ }
+    requires { ⌜ isFile (now file) ≡ true ⌝ }
+    ensures { λ r. ⌜ r ≡ fileAnswer (now (book .entry)) (now (file .entry)) ⌝ }
+{
+    let mut closed = [false; 36525];
+    answer_with(book, file, &mut closed)
+}

@@ -1,0 +1,154 @@
+-- Laws of numbers as text, and of text laid over lent bytes. Assumes nothing.
+use mathlib.Core.Path.{_≡_, refl, sym, _∙_, ap}
+use mathlib.Core.Bool.{Bool, true, false, cond, true≢false}
+use mathlib.Core.List.{List, [], _∷_, _++_}
+use mathlib.Core.Logic.{_⊎_, inl, inr}
+use Prim.Native.Nat.{ℕ, zero, suc, _+_, _-_, _*_, _/_, _%_, _^_, min, _≤_, _<_}
+use native.Mathlib.Nat.{add-zero, pow-suc}
+use native.Mathlib.Numerals.{add-one}
+use native.Mathlib.Omega.{arith}
+use lib.Dec.{ltb}
+use lib.IntN.{ℤ, pos, negsuc, natAbs}
+use lib.ListN.{length, getD, drop, set, length-append, length-set}
+use lib.Seq.{set-out, drop-cons, length-take-le}
+use Rattle.io.specs.Counts.{Counts}
+use borrow.Author.Tests.{ltb-true, ltb-false, lt-ltb, le-ltb}
+use Rattle.numbers.specs.Signed.{isNegative}
+use Rattle.numbers.proofs.TestLaws.{bool-cases}
+use Rattle.report.specs.Text.{digits, decimal, signed, over, Wrote}
+
+-- text after text
+pub over-append : (s t out : List ℕ) (at : ℕ) → over out at (s ++ t) ≡ over (over out at s) (at + length s) t
+unfolding over
+over-append [] t out at = rw (add-zero at)
+over-append (b ∷ s) t out at =
+    let e : at + suc (length s) ≡ at + 1 + length s = omega arith in
+    rw e (over-append s t (set out at b) (at + 1))
+
+pub length-over : (s out : List ℕ) (at : ℕ) → length (over out at s) ≡ length out
+unfolding over
+length-over [] out at = refl
+length-over (b ∷ s) out at = length-over s (set out at b) (at + 1) ∙ length-set out at b
+
+-- past the end nothing is laid
+pub over-out : (s out : List ℕ) (at : ℕ) → length out ≤ at → over out at s ≡ out
+unfolding over
+over-out [] out at h = refl
+over-out (b ∷ s) out at h =
+    rw (set-out out at b h) (over-out s out (at + 1) (omega arith))
+
+below-or-above : (a b : ℕ) → (a ≤ b) ⊎ (b < a)
+below-or-above a b = elim (bool-cases (ltb b a)) [ inl e ↦ inr (ltb-true b a e) | inr e ↦ inl (ltb-false b a e) ]
+
+-- laying goes on at the place where it stopped, or at the end
+over-from : (t out : List ℕ) (at : ℕ) → over out (min at (length out)) t ≡ over out at t
+over-from t out at =
+    elim (below-or-above at (length out)) [
+      | inl h ↦ (let e : min at (length out) ≡ at = omega arith in rw e)
+      | inr h ↦ (let e : min at (length out) ≡ length out = omega arith in rw (e, over-out t out (length out) (omega arith), over-out t out at (omega arith)))
+    ]
+
+module _ {out : List ℕ} {at : ℕ} {s : List ℕ} {next : ℕ} {left : List ℕ} (w : Wrote out at s next left) where
+  pub wrote-long : length left ≡ length out
+  wrote-long = ap length (w .bytes) ∙ length-over s out at
+
+  pub wrote-within : next ≤ length left
+  wrote-within = rw (wrote-long, w .place) (omega arith)
+
+  pub wrote-over : (t : List ℕ) → over left next t ≡ over out at (s ++ t)
+  wrote-over t =
+      rw (w .place, ← wrote-long, over-from t left (at + length s), w .bytes, over-append s t out at)
+
+  pub wrote-then : {t : List ℕ} {last : ℕ} {end : List ℕ} → Wrote left next t last end → Wrote out at (s ++ t) last end
+  wrote-then {t} v =
+      record {
+        place = v .place ∙ rw (wrote-long, w .place, length-append s t) (omega arith);
+        bytes = v .bytes ∙ wrote-over t;
+      }
+
+-- what is left to write: the whole text over the bytes as they were is the rest over the bytes as they are
+pub record Left (out₀ : List ℕ) (at₀ : ℕ) (whole : List ℕ) (out : List ℕ) (at : ℕ) (rest : List ℕ) : Type 0 where
+  pub bytes : over out₀ at₀ whole ≡ over out at rest
+  pub place : min (at₀ + length whole) (length out₀) ≡ min (at + length rest) (length out₀)
+  pub within : at ≤ length out
+  pub long : length out ≡ length out₀
+
+pub left-start : (out : List ℕ) (at : ℕ) (whole : List ℕ) → at ≤ length out → Left out at whole out at whole
+left-start out at whole h = record { bytes = refl; place = refl; within = h; long = refl }
+
+module _ {out₀ : List ℕ} {at₀ : ℕ} {whole : List ℕ} {out : List ℕ} {at : ℕ} {rest : List ℕ} (l : Left out₀ at₀ whole out at rest) where
+  pub left-step : {s rest′ : List ℕ} {next : ℕ} {out′ : List ℕ} → rest ≡ s ++ rest′ → Wrote out at s next out′ → Left out₀ at₀ whole out′ next rest′
+  left-step {s} {rest′} e w =
+      record {
+        bytes = l .bytes ∙ rw e (sym (wrote-over w rest′));
+        place = l .place ∙ rw (e, w .place, length-append s rest′, l .long) (omega arith);
+        within = wrote-within w;
+        long = wrote-long w ∙ l .long;
+      }
+
+  pub left-end : rest ≡ [] → Wrote out₀ at₀ whole at out
+  unfolding over
+  left-end e = record { place = sym (l .place ∙ rw e (omega (arith, l .within, l .long))); bytes = sym (l .bytes ∙ rw e) }
+
+-- digits
+one-digit : (n x : ℕ) → x < 10 → digits (suc n) x ≡ (48 + x) ∷ []
+unfolding digits
+one-digit n x h = rw (lt-ltb x 10 h)
+
+pub small-decimal : (x : ℕ) → x < 10 → decimal x ≡ (48 + x) ∷ []
+unfolding decimal
+small-decimal x h = one-digit 19 x h
+
+digits-step : (n x : ℕ) → 10 ≤ x → digits (suc n) x ≡ digits n (x / 10) ++ ((48 + x % 10) ∷ [])
+unfolding digits
+digits-step n x h = rw (le-ltb x 10 h)
+
+-- one digit more is not needed where all are there
+digits-enough : (n x : ℕ) → x < 10 ^ suc n → digits (suc n) x ≡ digits (suc (suc n)) x
+digits-enough zero x h = one-digit 0 x h ∙ sym (one-digit 1 x h)
+digits-enough (suc n) x h =
+    elim (below-or-above 10 x) [
+      | inl l ↦
+        digits-step (suc n) x l
+        ∙ ap (λ ds. ds ++ ((48 + x % 10) ∷ [])) (digits-enough n (x / 10) (tenth (10 ^ suc n) x (rw pow-suc at h)))
+        ∙ sym (digits-step (suc (suc n)) x l)
+      | inr l ↦ one-digit (suc n) x l ∙ sym (one-digit (suc (suc n)) x l)
+    ]
+  where
+    tenth : (y x : ℕ) → x < y * 10 → x / 10 < y
+    tenth y x h = omega arith
+
+pub decimal-step : (x : ℕ) → x < 18446744073709551616 → 10 ≤ x → decimal x ≡ decimal (x / 10) ++ ((48 + x % 10) ∷ [])
+unfolding decimal
+decimal-step x f h =
+    digits-step 19 x h ∙ ap (λ ds. ds ++ ((48 + x % 10) ∷ [])) (digits-enough 18 (x / 10) (omega arith))
+
+-- one byte
+pub wrote-none : (out : List ℕ) (at b : ℕ) → at ≤ length out → length out ≤ at → Wrote out at (b ∷ []) at out
+wrote-none out at b h l = record { place = omega arith; bytes = sym (over-out (b ∷ []) out at l) }
+
+pub wrote-one : (out : List ℕ) (at b : ℕ) → at < length out → Wrote out at (b ∷ []) (at + 1) (set out at b)
+unfolding over
+wrote-one out at b h = record { place = omega arith; bytes = refl }
+
+pub next-byte : (bs : List ℕ) (i : ℕ) → i < length bs → drop i bs ≡ (getD bs i 0 ∷ []) ++ drop (i + 1) bs
+next-byte bs i h = rw (add-one i, drop-cons bs i 0 h)
+
+-- a negative number has a minus sign
+pub signed-negative : (x : ℤ) → isNegative x ≡ true → signed x ≡ (45 ∷ []) ++ decimal (natAbs x)
+unfolding signed
+signed-negative (pos n) e = absurd (omega (arith, ltb-true n 0 e))
+signed-negative (negsuc n) e = refl
+
+pub signed-other : (x : ℤ) → isNegative x ≡ false → signed x ≡ decimal (natAbs x)
+unfolding signed
+signed-other (pos n) e = refl
+signed-other (negsuc n) e = absurd (true≢false e)
+
+pub wrote-nothing : (out : List ℕ) (at : ℕ) → at ≤ length out → Wrote out at [] at out
+unfolding over
+wrote-nothing out at h = record { place = omega arith; bytes = refl }
+
+-- the place after a text counts bytes of the slice
+pub wrote-counts : {out : List ℕ} {at : ℕ} {s : List ℕ} {next : ℕ} {left : List ℕ} → Wrote out at s next left → Counts next left
+wrote-counts {next = next} {left} w = (wrote-within w, sym (length-take-le next left (wrote-within w)))

@@ -1,0 +1,56 @@
+-- `report::input::report_from` meets its contract. Assumes nothing.
+use mathlib.Core.Path.{sym}
+use lib.Seq.{length-take-le}
+use Rattle.report.proofs.TextLaws.{wrote-counts}
+use borrow.Author.Needs.{needs}
+use Rattle.report.proofs.input.report_from.Statement.{statement}
+use Rattle.report.proofs.input.report_from.Tie as tie
+
+read-whole-requires : tie.Need-read-whole-requires
+read-whole-requires c κs = search needs
+
+refused-requires : tie.Need-refused-requires
+refused-requires c κs = search needs
+
+same-length : tie.Need-same-length
+same-length c = search needs
+
+same-length-2 : tie.Need-same-length-2
+same-length-2 c = search needs
+
+returns : tie.Need-returns
+returns c = wrote-counts (c .before .before .refused .ensures)
+
+slice-reshare-prefix-report : tie.Need-slice-reshare-prefix-report
+slice-reshare-prefix-report c = search needs
+
+slice-aggregate-report : tie.Need-slice-aggregate-report
+slice-aggregate-report c = sym (length-take-le _ _ (c .before .before .before .before .read-whole .ensures))
+
+report-requires : tie.Need-report-requires
+report-requires c κs = search needs
+
+same-length-3 : tie.Need-same-length-3
+same-length-3 c = search needs
+
+same-length-4 : tie.Need-same-length-4
+same-length-4 c = search needs
+
+returns-2 : tie.Need-returns-2
+returns-2 c = wrote-counts (c .before .before .report .ensures)
+
+pub report-from-spec : {M : Type 1} → statement M
+report-from-spec =
+    tie.close
+    (tie.spec
+    read-whole-requires
+    refused-requires
+    same-length
+    same-length-2
+    returns
+    slice-reshare-prefix-report
+    slice-aggregate-report
+    report-requires
+    same-length-3
+    same-length-4
+    returns-2)

@@ -1,0 +1,65 @@
+-- `report::put_parties` meets its contract. The loop's invariant: what is left to write is the lines from the party on. Assumes nothing.
+use Prim.Native.Nat.{_≤_, _-_}
+use native.Mathlib.Omega.{arith}
+use Rattle.report.specs.Report.{eachFrom, partyLines, allLines}
+use Rattle.report.proofs.TextLaws.{Left, left-start, left-step, left-end}
+use Rattle.report.proofs.ReportLaws.{each-step, each-end}
+use borrow.Author.Needs.{needs}
+use Rattle.report.proofs.put_parties.Statement.{statement}
+use Rattle.report.proofs.put_parties.Tie as tie
+
+abbrev Inv-loop : tie.InvT-loop
+Inv-loop book file parties out₀ at next₀ party₀ out next party =
+    (party ≤ 1000) × Left out₀ at (allLines file book) out next (eachFrom (partyLines file book) (1000 - party) party)
+
+abbrev μ-loop : tie.MeasureT-loop
+μ-loop book file parties out₀ at next₀ party₀ out next party = 1000 - party
+
+loop-holds : tie.Need-loop-holds Inv-loop μ-loop
+unfolding allLines
+loop-holds c = (omega arith, left-start (c .before .before .before .before .args .out .now) (c .before .before .before .before .args .at) _ (c .before .before .before .before .pre .0))
+
+cast-put-party : tie.Need-cast-put-party Inv-loop μ-loop
+cast-put-party c = search needs
+
+shared-slice-read-put-party : tie.Need-shared-slice-read-put-party Inv-loop μ-loop
+shared-slice-read-put-party c = search needs
+
+put-party-requires : tie.Need-put-party-requires Inv-loop μ-loop
+put-party-requires c κs =
+    let l = c .before .before .before in
+    (l .loop .inv .1 .within, l .before .before .before .before .before .pre .1 .1 (l .loop .party) (c .before .before .loop-test .taken))
+
+add-party : tie.Need-add-party Inv-loop μ-loop
+add-party c = search needs
+
+loop-less : tie.Need-loop-less Inv-loop μ-loop
+loop-less c = search needs
+
+loop-again : tie.Need-loop-again Inv-loop μ-loop
+loop-again c =
+    let p = c .before .before in
+    let l = p .before .before .before .before in
+    (omega arith, left-step (l .loop .inv .1) (each-step _ 1000 (l .loop .party) (p .before .before .before .loop-test .taken)) (p .put-party .ensures))
+
+same-length : tie.Need-same-length Inv-loop μ-loop
+same-length c = c .before .loop .inv .1 .long
+
+returns : tie.Need-returns Inv-loop μ-loop
+returns c = left-end (c .before .loop .inv .1) (each-end _ 1000 (c .before .loop .party) (c .loop-test .left))
+
+pub put-parties-spec : {M : Type 1} → statement M
+put-parties-spec =
+    tie.close
+    (tie.spec
+    Inv-loop
+    μ-loop
+    loop-holds
+    cast-put-party
+    shared-slice-read-put-party
+    put-party-requires
+    add-party
+    loop-less
+    loop-again
+    same-length
+    returns)

@@ -1,0 +1,51 @@
+-- The report on a day file: a header and a line for each party and day named, or a refusal (01, 'Day file').
+use mathlib.Core.Bool.{cond}
+use mathlib.Core.List.{List, [], _∷_, _++_}
+use Prim.Native.Nat.{ℕ, zero, suc, _+_}
+use lib.IntN.{ℤ}
+use lib.ListN.{replicate}
+use Rattle.numbers.specs.Causes.{ifDone}
+use Rattle.rules.specs.Book.{openWords, defaultCoefficient, defaultTolerance}
+use Rattle.rules.specs.Balance.{balanceAnswer, dayAhead, delivery}
+use Rattle.rules.specs.DayFile.{fileCause, fileWords, fileNames}
+use Rattle.report.specs.Text.{decimal, signed}
+
+-- party day ahead delivery
+abbrev pub header : List ℕ
+header =
+    112 ∷ 97 ∷ 114 ∷ 116 ∷ 121 ∷ 32 ∷ 100 ∷ 97 ∷ 121 ∷ 32 ∷ 97 ∷ 104 ∷ 101 ∷ 97 ∷ 100 ∷ 32 ∷ 100 ∷ 101 ∷ 108 ∷ 105 ∷ 118 ∷ 101 ∷ 114 ∷ 121 ∷ 10 ∷ []
+
+-- refused, a space and the number
+unfoldable pub refusal : ℕ → List ℕ
+refusal cause = (114 ∷ 101 ∷ 102 ∷ 117 ∷ 115 ∷ 101 ∷ 100 ∷ 32 ∷ []) ++ decimal cause ++ (10 ∷ [])
+
+-- party, day and two balances, with a space between them
+unfoldable pub lineText : ℕ → ℕ → ℤ → ℤ → List ℕ
+lineText p d ahead due =
+    decimal p ++ (32 ∷ []) ++ (decimal d ++ (32 ∷ [])) ++ (signed ahead ++ (32 ∷ [])) ++ (signed due ++ (10 ∷ []))
+
+unfoldable pub lineOf : List ℕ → ℕ → ℕ → List ℕ
+lineOf ws p d = lineText p d (balanceAnswer dayAhead ws p d .balance) (balanceAnswer delivery ws p d .balance)
+
+-- the texts of n numbers from k on
+unfoldable pub eachFrom : (ℕ → List ℕ) → ℕ → ℕ → List ℕ
+eachFrom text zero k = []
+eachFrom text (suc n) k = text k ++ eachFrom text n (k + 1)
+
+-- the days 0 to 36,524 of a party, and the parties 1 to 999
+unfoldable pub partyLines : List ℕ → List ℕ → ℕ → List ℕ
+partyLines bs ws p = eachFrom (λ d. cond (fileNames bs p d) (lineOf ws p d) []) 36525 0
+
+unfoldable pub allLines : List ℕ → List ℕ → List ℕ
+allLines bs ws = eachFrom (partyLines bs ws) 999 1
+
+-- the report on a file read into an opened book
+unfoldable pub reportInto : List ℕ → List ℕ → List ℕ
+reportInto ws bs = ifDone (fileCause ws bs) (header ++ allLines bs (fileWords ws bs)) (refusal (fileCause ws bs))
+
+-- a default book of 3,072 entries
+abbrev pub bookWords : ℕ
+bookWords = 15363
+
+unfoldable pub reportOn : List ℕ → List ℕ
+reportOn bs = reportInto (openWords (replicate bookWords 0) defaultCoefficient defaultTolerance) bs

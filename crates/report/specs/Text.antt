@@ -1,0 +1,32 @@
+-- Numbers as text, and text laid over lent bytes.
+use mathlib.Core.Path.{_≡_}
+use mathlib.Core.Bool.{cond}
+use mathlib.Core.List.{List, [], _∷_, _++_}
+use Prim.Native.Nat.{ℕ, zero, suc, _+_, _/_, _%_, min}
+use lib.Dec.{ltb}
+use lib.IntN.{ℤ, pos, negsuc}
+use lib.ListN.{length, set}
+
+-- the decimal digits of a number, at most so many
+unfoldable pub digits : ℕ → ℕ → List ℕ
+digits zero x = []
+digits (suc n) x = cond (ltb x 10) ((48 + x) ∷ []) (digits n (x / 10) ++ ((48 + x % 10) ∷ []))
+
+-- a number below 2⁶⁴ has at most twenty
+unfoldable pub decimal : ℕ → List ℕ
+decimal x = digits 20 x
+
+-- a negative number has a minus sign
+unfoldable pub signed : ℤ → List ℕ
+signed (pos n) = decimal n
+signed (negsuc n) = 45 ∷ decimal (suc n)
+
+-- bytes laid over a lent slice, from a place on; what is past its end is left out
+unfoldable pub over : List ℕ → ℕ → List ℕ → List ℕ
+over out at [] = out
+over out at (b ∷ bs) = over (set out at b) (at + 1) bs
+
+-- a text written at a place: the place after it, and what the slice then holds
+pub record Wrote (out : List ℕ) (at : ℕ) (text : List ℕ) (next : ℕ) (left : List ℕ) : Type 0 where
+  pub place : next ≡ min (at + length text) (length out)
+  pub bytes : left ≡ over out at text

@@ -1,0 +1,149 @@
+// What the program `balance` prints, as a function on slices (01, 'Day file').
+ghost use mathlib.Core.Path.{_≡_};
+ghost use mathlib.Core.Bool.{false, cond};
+ghost use mathlib.Core.List.{[], _∷_, _++_};
+ghost use Prim.Native.Nat.{ℕ, _+_, _≤_, _<_};
+ghost use lib.ListN.{length, getD};
+ghost use Rattle.rules.specs.Book.{openWords, defaultCoefficient, defaultTolerance};
+ghost use Rattle.dayfile.specs.Names.{namesParty};
+ghost use Rattle.report.specs.Text.{Wrote};
+ghost use Rattle.report.specs.Report.{header, refusal, lineText, lineOf, eachFrom, partyLines, allLines, reportInto, reportOn};
+
+pub mod input;
+pub mod text;
+
+fn put_line(out: &mut [u8], at: usize, party: u32, day: u32, ahead: i64, due: i64) -> usize
+    requires { ⌜ at ≤ length (now out) ⌝ }
+    ensures { λ r. ⌜ Wrote (now (out .entry)) at (lineText party day ahead due) r (now (out .exit)) ⌝ }
+{
+    let first = text::put_number(out, at, party);
+    let second = text::put_number(out, first, day);
+    let third = text::put_balance(out, second, ahead, b' ');
+    text::put_balance(out, third, due, b'\n')
+}
+
+fn put_named(book: &[u32], party: u32, day: u32, named: bool, out: &mut [u8], at: usize) -> usize
+    requires { ⌜ at ≤ length (now out) ⌝ }
+    ensures { λ r. ⌜ Wrote (now (out .entry)) at (cond named (lineOf (now (book .entry)) party day) []) r (now (out .exit)) ⌝ }
+{
+    if !named {
+        return at;
+    }
+    let ahead = position::day_ahead(book, party, day);
+    let due = position::delivery(book, party, day);
+    put_line(out, at, party, day, ahead.balance, due.balance)
+}
+
+// A line for each day that the table has.
+fn put_days(book: &[u32], party: u32, days: &[bool], out: &mut [u8], at: usize) -> usize
+    requires { ⌜ at ≤ length (now out) ⌝ }
+    requires { ⌜ length (now days) ≡ 36525 ⌝ }
+    ensures { λ r. ⌜ Wrote (now (out .entry)) at (eachFrom (λ d. cond (getD (now (days .entry)) d false) (lineOf (now (book .entry)) party d) []) 36525 0) r (now (out .exit)) ⌝ }
+{
+    let mut next = at;
+    let mut day = 0;
+    while day < 36525 {
+        next = put_named(book, party, day as u32, days[day], out, next);
+        day += 1;
+    }
+    next
+}
+
+// `days` is lent empty.
+fn put_party_with(
+    book: &[u32],
+    file: &[u8],
+    party: u32,
+    days: &mut [bool],
+    out: &mut [u8],
+    at: usize,
+) -> usize
+    requires { ⌜ at ≤ length (now out) ⌝ }
+    requires { ⌜ length (now days) ≡ 36525 ⌝ }
+    requires { ⌜ ((d : ℕ) → d < 36525 → getD (now days) d false ≡ false) ⌝ }
+    ensures { λ r. ⌜ Wrote (now (out .entry)) at (partyLines (now (file .entry)) (now (book .entry)) party) r (now (out .exit)) ⌝ }
+{
+    dayfile::names::mark_days(file, party, days);
+    put_days(book, party, days, out, at)
+}
+
+// The lines of a party, by day. One that the file does not name has none.
+fn put_party(
+    book: &[u32],
+    file: &[u8],
+    party: u32,
+    named: bool,
+    out: &mut [u8],
+    at: usize,
+) -> usize
+    requires { ⌜ at ≤ length (now out) ⌝ }
+    requires { ⌜ named ≡ namesParty (now file) party ⌝ }
+    ensures { λ r. ⌜ Wrote (now (out .entry)) at (partyLines (now (file .entry)) (now (book .entry)) party) r (now (out .exit)) ⌝ }
+{
+    if !named {
+        return at;
+    }
+    let mut days = [false; 36525];
+    put_party_with(book, file, party, &mut days, out, at)
+}
+
+fn put_parties(book: &[u32], file: &[u8], parties: &[bool], out: &mut [u8], at: usize) -> usize
+    requires { ⌜ at ≤ length (now out) ⌝ }
+    requires { ⌜ length (now parties) ≡ 1000 ⌝ }
+    requires { ⌜ ((p : ℕ) → p < 1000 → getD (now parties) p false ≡ namesParty (now file) p) ⌝ }
+    ensures { λ r. ⌜ Wrote (now (out .entry)) at (allLines (now (file .entry)) (now (book .entry))) r (now (out .exit)) ⌝ }
+{
+    let mut next = at;
+    let mut party = 1;
+    while party < 1000 {
+        next = put_party(book, file, party as u32, parties[party], out, next);
+        party += 1;
+    }
+    next
+}
+
+// The header and all lines. `parties` is lent empty.
+fn put_table_with(book: &[u32], file: &[u8], parties: &mut [bool], out: &mut [u8]) -> usize
+    requires { ⌜ length (now parties) ≡ 1000 ⌝ }
+    requires { ⌜ ((p : ℕ) → p < 1000 → getD (now parties) p false ≡ false) ⌝ }
+    ensures { λ r. ⌜ Wrote (now (out .entry)) 0 (header ++ allLines (now (file .entry)) (now (book .entry))) r (now (out .exit)) ⌝ }
+{
+    dayfile::names::mark_parties(file, parties);
+    let next = text::put_bytes(out, 0, b"party day ahead delivery\n");
+    put_parties(book, file, parties, out, next)
+}
+
+fn put_table(book: &[u32], file: &[u8], out: &mut [u8]) -> usize
+    ensures { λ r. ⌜ Wrote (now (out .entry)) 0 (header ++ allLines (now (file .entry)) (now (book .entry))) r (now (out .exit)) ⌝ }
+{
+    let mut parties = [false; 1000];
+    put_table_with(book, file, &mut parties, out)
+}
+
+// One line for a refusal, as much of it as fits.
+pub fn refused(cause: u32, out: &mut [u8]) -> usize
+    ensures { λ r. ⌜ Wrote (now (out .entry)) 0 (refusal cause) r (now (out .exit)) ⌝ }
+{
+    let first = text::put_bytes(out, 0, b"refused ");
+    let second = text::put_decimal(out, first, cause as u64);
+    text::put(out, second, b'\n')
+}
+
+fn report_into(book: &mut [u32], file: &[u8], out: &mut [u8]) -> usize
+    ensures { λ r. ⌜ Wrote (now (out .entry)) 0 (reportInto (openWords (now (book .entry)) defaultCoefficient defaultTolerance) (now (file .entry))) r (now (out .exit)) ⌝ }
+{
+    book::open_default(book);
+    let found = dayfile::read_file(book, file);
+    if found.answer != 0 {
+        return refused(found.answer, out);
+    }
+    put_table(book, file, out)
+}
+
+// The report on a day file, as much of it as fits.
+pub fn report(file: &[u8], out: &mut [u8]) -> usize
+    ensures { λ r. ⌜ Wrote (now (out .entry)) 0 (reportOn (now (file .entry))) r (now (out .exit)) ⌝ }
+{
+    let mut book = [0u32; 15363];
+    report_into(&mut book, file, out)
+}

@@ -1,0 +1,89 @@
+// Internal: text into lent bytes, as much of it as fits. A caller meets each `requires`.
+ghost use mathlib.Core.Path.{_≡_};
+ghost use mathlib.Core.List.{[], _∷_, _++_};
+ghost use Prim.Native.Nat.{_+_, _≤_, _<_};
+ghost use lib.IntN.{natAbs};
+ghost use lib.ListN.{length};
+ghost use Rattle.report.specs.Text.{decimal, signed, Wrote};
+
+pub fn put(out: &mut [u8], at: usize, byte: u8) -> usize
+    requires { ⌜ at ≤ length (now out) ⌝ }
+    ensures { λ r. ⌜ Wrote (now (out .entry)) at (byte ∷ []) r (now (out .exit)) ⌝ }
+{
+    if out.len() <= at {
+        return at;
+    }
+    out[at] = byte;
+    at + 1
+}
+
+pub fn put_bytes(out: &mut [u8], at: usize, bytes: &[u8]) -> usize
+    requires { ⌜ at ≤ length (now out) ⌝ }
+    ensures { λ r. ⌜ Wrote (now (out .entry)) at (now (bytes .entry)) r (now (out .exit)) ⌝ }
+{
+    let mut next = at;
+    let mut i = 0;
+    while i < bytes.len() {
+        next = put(out, next, bytes[i]);
+        i += 1;
+    }
+    next
+}
+
+fn digit(x: u64) -> u8
+    requires { ⌜ x < 10 ⌝ }
+    ensures { λ r. ⌜ r ≡ 48 + x ⌝ }
+{
+    48 + (x as u8)
+}
+
+pub fn put_decimal(out: &mut [u8], at: usize, x: u64) -> usize
+    requires { ⌜ at ≤ length (now out) ⌝ }
+    ensures { λ r. ⌜ Wrote (now (out .entry)) at (decimal x) r (now (out .exit)) ⌝ }
+{
+    if x < 10 {
+        return put(out, at, digit(x));
+    }
+    let next = put_decimal(out, at, x / 10);
+    put(out, next, digit(x % 10))
+}
+
+// The absolute value of a balance.
+fn magnitude(x: i64) -> u64
+    ensures { λ r. ⌜ r ≡ natAbs x ⌝ }
+{
+    if x < 0 {
+        ((-1 - x) as u64) + 1
+    } else {
+        x as u64
+    }
+}
+
+pub fn put_signed(out: &mut [u8], at: usize, x: i64) -> usize
+    requires { ⌜ at ≤ length (now out) ⌝ }
+    ensures { λ r. ⌜ Wrote (now (out .entry)) at (signed x) r (now (out .exit)) ⌝ }
+{
+    let size = magnitude(x);
+    if x < 0 {
+        let next = put(out, at, b'-');
+        return put_decimal(out, next, size);
+    }
+    put_decimal(out, at, size)
+}
+
+// A number, and what follows it.
+pub fn put_number(out: &mut [u8], at: usize, x: u32) -> usize
+    requires { ⌜ at ≤ length (now out) ⌝ }
+    ensures { λ r. ⌜ Wrote (now (out .entry)) at (decimal x ++ (32 ∷ [])) r (now (out .exit)) ⌝ }
+{
+    let next = put_decimal(out, at, x as u64);
+    put(out, next, b' ')
+}
+
+pub fn put_balance(out: &mut [u8], at: usize, x: i64, end: u8) -> usize
+    requires { ⌜ at ≤ length (now out) ⌝ }
+    ensures { λ r. ⌜ Wrote (now (out .entry)) at (signed x ++ (end ∷ [])) r (now (out .exit)) ⌝ }
+{
+    let next = put_signed(out, at, x);
+    put(out, next, end)
+}
