@@ -1,5 +1,5 @@
 -- The definitions of a book at a place of its words, as code reads them. Assumes nothing.
-use mathlib.Core.Path.{_≡_, refl, sym, _∙_}
+use mathlib.Core.Path.{_≡_, sym, _∙_}
 use mathlib.Core.Bool.{Bool, true, false, not, _&&_, _||_}
 use mathlib.Core.List.{List, [], _∷_}
 use Prim.Native.Nat.{ℕ, zero, suc, _+_, _-_, _*_, _<_, _≤_}
@@ -11,7 +11,7 @@ use lib.Seq.{getD-drop, drop-drop}
 use borrow.Author.Tests.{le-leb, lt-leb, leb-true, not-true, not-false}
 use Rattle.numbers.specs.Tests.{any}
 use Rattle.numbers.proofs.TestLaws.{and-split}
-use Rattle.rules.specs.Words.{entryOk, entriesOk, decode, readEntries, entries, isBook, kindOf, kindAt, countOf, coefficientOf, toleranceOf, roomIn}
+use Rattle.rules.specs.Words.{entryOk, entriesOk, decode, readEntries, isBook, kindOf, kindAt, countOf, coefficientOf, toleranceOf, roomIn}
 use Rattle.rules.specs.Book.{isClosed, isMarkOf}
 use Rattle.rules.proofs.WordLaws.{entries-ok-step, read-step, room-words, book-facts, entry-facts}
 

@@ -1,15 +1,13 @@
 -- What a call answers and leaves, by the cause that it found. Assumes nothing.
-use mathlib.Core.Path.{_≡_, refl, sym, ap, ap₂, _∙_}
-use mathlib.Core.Bool.{true, false}
+use mathlib.Core.Path.{_≡_, sym, ap₂, _∙_}
+use mathlib.Core.Bool.{true}
 use mathlib.Core.List.{List}
-use Prim.Native.Nat.{ℕ, _+_, _*_, _≤_, _<_}
+use Prim.Native.Nat.{ℕ, _+_, _*_, _≤_}
 use native.Mathlib.Omega.{arith}
-use lib.Dec.{ltb}
-use lib.ListN.{length, drop, set}
-use borrow.Author.Tests.{lt-ltb, le-ltb}
+use lib.ListN.{length, set}
 use Rattle.numbers.proofs.CauseLaws.{done-else, done-zero}
-use Rattle.rules.specs.Entry.{Key, keyOf, recordOf, legal, standing}
-use Rattle.rules.specs.Words.{countOf, roomIn, entryOk, isBook}
+use Rattle.rules.specs.Entry.{Key, recordOf, legal, standing}
+use Rattle.rules.specs.Words.{countOf}
 use Rattle.rules.specs.Book.{postCause, postAnswer, postWords, posted, storedAt, withdrawCause, withdrawWords, restatused}
 use Rattle.rules.specs.declared.Posted.{Posted}
 use Rattle.rules.proofs.WordLaws.{room-words, book-facts}

@@ -1,16 +1,15 @@
 -- The tests of an entry's five words as code makes them: whole words held to kind and range in one comparison. Assumes nothing.
 use mathlib.Core.Path.{_≡_, refl, sym, _∙_}
-use mathlib.Core.Logic.{inl, inr}
 use mathlib.Core.Bool.{Bool, true, false, not, _&&_, _||_, true≢false}
-use mathlib.Core.List.{List, [], _∷_}
-use Prim.Native.Nat.{ℕ, _+_, _*_, _/_, _≤_, _<_}
+use mathlib.Core.List.{[], _∷_}
+use Prim.Native.Nat.{ℕ, _+_, _≤_, _<_}
 use native.Mathlib.Omega.{arith}
 use lib.Dec.{eqb, leb}
-use borrow.Author.Tests.{le-leb, leb-true, eq-eqb, eqb-true, not-true, not-false}
+use borrow.Author.Tests.{le-leb, eq-eqb, eqb-true, not-true, not-false}
 use Rattle.numbers.specs.Causes.{unless, firstOf}
-use Rattle.numbers.proofs.TestLaws.{and-split, and-join, bool-cases, every-holds}
+use Rattle.numbers.proofs.TestLaws.{and-split, and-join, every-holds}
 use Rattle.rules.specs.Entry.{Record, key, within, partyOk, dayOk, isType, counterpartyOk, amountLimit, statusOk, fault, isMark, markOk, isStanding, legal}
-use Rattle.rules.specs.Words.{word, kindOf, valueOf, kindAt, decode, entryOk}
+use Rattle.rules.specs.Words.{word, kindOf, valueOf, decode, entryOk}
 use Rattle.rules.proofs.WordLaws.{entry-facts, legal-bounds, within-true}
 use Rattle.book.specs.Parts.{figuresOk}
 
@@ -57,9 +56,9 @@ plain-legal r p d =
     let q = within-true 1 999 (key r .party) p in
     rw (p, d, mark-has-no-party r (q .0)) (none-of-three (isType (key r .type)) (counterpartyOk (key r)) (leb (r .amount) (amountLimit (key r .type))) (statusOk (r .label)))
 
-pub mark-legal : (r : Record) → partyOk (key r .party) ≡ false → markOk r ≡ legal r
+pub no-party-legal : (r : Record) → partyOk (key r .party) ≡ false → markOk r ≡ legal r
 unfolding legal fault
-mark-legal r p = rw p
+no-party-legal r p = rw p
 
 -- the words a, d, f, l and h of an entry: what each return of the code's ladder knows
 abbrev pub dayWord : ℕ → Bool
@@ -107,7 +106,7 @@ module _ (a d f l h : ℕ) where
         go : (k : Bool) → eqb (kindOf a) 1 ≡ k → eqb (kindOf a) 1 && r ≡ entryOk (a ∷ d ∷ f ∷ l ∷ h ∷ [])
         go true k =
             let p : partyOk (valueOf a) ≡ false = rw k at (sym (word-within 1 1 999 a (omega arith)) ∙ not-true (partyWord a) e) in
-            rw (entry-is, k, q) (mark-legal (decode (a ∷ d ∷ f ∷ l ∷ h ∷ [])) p)
+            rw (entry-is, k, q) (no-party-legal (decode (a ∷ d ∷ f ∷ l ∷ h ∷ [])) p)
         go false k = rw (entry-is, k)
 
     pub party-in : not (partyWord a) ≡ false → {r : Bool} → r ≡ figuresOk (decode (a ∷ d ∷ f ∷ l ∷ h ∷ [])) → r ≡ entryOk (a ∷ d ∷ f ∷ l ∷ h ∷ [])

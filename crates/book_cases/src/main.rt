@@ -6,7 +6,7 @@ use libc::STDIN_FILENO;
 use libc::STDOUT_FILENO;
 use list::Row;
 
-// The lent words, how many of them, and the counts of the group.
+// How many words are lent, and the counts of the group.
 struct State {
     lent: usize,
     checks: u64,

@@ -97,10 +97,10 @@ no-line bs at n p d h =
     elim (below-or-above (length bs - at) 4) [
       | inl l ↦ rw (words-end bs at l)
       | inr l ↦
-        elim (below-or-above (length bs - at) 8) [
-          | inl m ↦ rw (words-cons bs at (omega arith), words-end bs (at + 4) (omega arith))
-          | inr m ↦ rw (words-cons bs at (omega arith), words-cons bs (at + 4) (omega arith), words-end bs (at + 4 + 4) (omega arith))
-        ]
+          elim (below-or-above (length bs - at) 8) [
+            | inl m ↦ rw (words-cons bs at (omega arith), words-end bs (at + 4) (omega arith))
+            | inr m ↦ rw (words-cons bs at (omega arith), words-cons bs (at + 4) (omega arith), words-end bs (at + 4 + 4) (omega arith))
+          ]
     ]
 
 pub items-end : (bs : List ℕ) (c : Cursor) → isMore bs c ≡ false → leftItems bs c ≡ []
@@ -148,16 +148,18 @@ shaped-end bs c more = go (c .left) refl
           | inl l ↦ rw (words-end bs (c .at) l, lt-ltb _ _ l)
           | inr l ↦ rw (words-cons bs (c .at) (omega arith), words-end bs (c .at + 4) (omega arith), le-ltb _ _ l)
         ]
+
     at-line : (n : ℕ) → length bs - c .at < 12 → isShaped (suc n) (wordsOf (drop (c .at) bs)) ≡ false
     at-line n h =
         elim (below-or-above (length bs - c .at) 4) [
           | inl l ↦ rw (words-end bs (c .at) l)
           | inr l ↦
-            elim (below-or-above (length bs - c .at) 8) [
-              | inl m ↦ rw (words-cons bs (c .at) (omega arith), words-end bs (c .at + 4) (omega arith))
-              | inr m ↦ rw (words-cons bs (c .at) (omega arith), words-cons bs (c .at + 4) (omega arith), words-end bs (c .at + 4 + 4) (omega arith))
-            ]
+              elim (below-or-above (length bs - c .at) 8) [
+                | inl m ↦ rw (words-cons bs (c .at) (omega arith), words-end bs (c .at + 4) (omega arith))
+                | inr m ↦ rw (words-cons bs (c .at) (omega arith), words-cons bs (c .at + 4) (omega arith), words-end bs (c .at + 4 + 4) (omega arith))
+              ]
         ]
+
     go : (n : ℕ) → c .left ≡ n → leftShaped bs c ≡ eqb (c .left) 0 && ltb (length bs - c .at) 4
     go zero e = rw e (at-block (leb-false 8 (length bs - c .at) (rw e at more)))
     go (suc n) e = rw (e, some n) (at-line n (leb-false 12 (length bs - c .at) (rw (e, some n) at more)))

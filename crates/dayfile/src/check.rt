@@ -11,7 +11,6 @@ ghost use Rattle.rules.specs.Book.{isMarkOf, isClosed};
 ghost use Rattle.rules.specs.DayFile.{Item, line, emptyBlock, itemCause, items, mostBytes, isFile, fileAnswer};
 ghost use Rattle.dayfile.specs.Walk.{isMore, itemsAt};
 ghost use Rattle.dayfile.specs.Check.{tableDays, causeBy, firstCause, linesAt, scanned};
-
 use crate::Cursor;
 use crate::walk;
 use rules::FileRead;

@@ -1,7 +1,6 @@
 // The day file: lines posted into a book, all or none (document 01, 'Day file').
 ghost use mathlib.Core.Path.{_≡_};
 ghost use Rattle.rules.specs.DayFile.{isFile, fileAnswer, fileWords};
-
 use rules::FileRead;
 
 pub mod check;

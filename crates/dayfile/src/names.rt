@@ -7,7 +7,6 @@ ghost use Rattle.numbers.specs.Tests.{any};
 ghost use Rattle.rules.specs.DayFile.{itemNames, fileNames};
 ghost use Rattle.dayfile.specs.Walk.{isMore, itemsAt};
 ghost use Rattle.dayfile.specs.Names.{isNamed, itemHas, namesParty};
-
 use crate::Cursor;
 use crate::walk;
 

@@ -8,7 +8,6 @@ ghost use Rattle.rules.specs.Entry.{legal};
 ghost use Rattle.rules.specs.DayFile.{items, linesOf};
 ghost use Rattle.dayfile.specs.Walk.{isMore, itemsAt};
 ghost use Rattle.dayfile.specs.Check.{linesAt, storedFrom};
-
 use crate::Cursor;
 use crate::walk;
 

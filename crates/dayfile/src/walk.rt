@@ -5,8 +5,8 @@ ghost use Prim.Native.Nat.{_+_, _*_, _≤_};
 ghost use lib.ListN.{length};
 ghost use Rattle.rules.specs.DayFile.{isHead, isLine, isShaped, wordsOf};
 ghost use Rattle.dayfile.specs.Walk.{wordAt, start, isMore, headAt, pastStep, lineAt, isStepOk};
-
-use crate::{Cursor, Line};
+use crate::Cursor;
+use crate::Line;
 
 // A word's top four bits of 32 are its kind (01, 'The words').
 const KIND: u32 = 268435456;

@@ -109,9 +109,9 @@ digits-enough zero x h = one-digit 0 x h ∙ sym (one-digit 1 x h)
 digits-enough (suc n) x h =
     elim (below-or-above 10 x) [
       | inl l ↦
-        digits-step (suc n) x l
-        ∙ ap (λ ds. ds ++ ((48 + x % 10) ∷ [])) (digits-enough n (x / 10) (tenth (10 ^ suc n) x (rw pow-suc at h)))
-        ∙ sym (digits-step (suc (suc n)) x l)
+          digits-step (suc n) x l
+          ∙ ap (λ ds. ds ++ ((48 + x % 10) ∷ [])) (digits-enough n (x / 10) (tenth (10 ^ suc n) x (rw pow-suc at h)))
+          ∙ sym (digits-step (suc (suc n)) x l)
       | inr l ↦ one-digit (suc n) x l ∙ sym (one-digit (suc (suc n)) x l)
     ]
   where

@@ -68,14 +68,7 @@ fn put_party_with(
 }
 
 // The lines of a party, by day. One that the file does not name has none.
-fn put_party(
-    book: &[u32],
-    file: &[u8],
-    party: u32,
-    named: bool,
-    out: &mut [u8],
-    at: usize,
-) -> usize
+fn put_party(book: &[u32], file: &[u8], party: u32, named: bool, out: &mut [u8], at: usize) -> usize
     requires { ⌜ at ≤ length (now out) ⌝ }
     requires { ⌜ named ≡ namesParty (now file) party ⌝ }
     ensures { λ r. ⌜ Wrote (now (out .entry)) at (partyLines (now (file .entry)) (now (book .entry)) party) r (now (out .exit)) ⌝ }

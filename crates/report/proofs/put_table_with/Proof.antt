@@ -18,10 +18,13 @@ put-parties-requires : tie.Need-put-parties-requires
 put-parties-requires c κs =
     let b = c .before .before .before .before in
     let m = b .before .before .before .before .before in
-    let s = m .before .before .before .before .before .before in
-    (wrote-within (b .put-bytes .ensures),
-    (m .mark-parties .kept .1 .0 ∙ s .pre .0,
-    λ p h. m .mark-parties .ensures p (rw (s .pre .0) h) ∙ rw (s .pre .1 p h)))
+    let s = m .before .before .before .before .before .before in (
+      wrote-within (b .put-bytes .ensures),
+      (
+        m .mark-parties .kept .1 .0 ∙ s .pre .0,
+        λ p h. m .mark-parties .ensures p (rw (s .pre .0) h) ∙ rw (s .pre .1 p h),
+      ),
+    )
 
 same-length : tie.Need-same-length
 same-length c = search needs

@@ -65,10 +65,11 @@ loop-again c =
     let b = l .before .before .before .before in
     let n = l .before .count-of .result in
     let ws = b .args .book .now in
-    let i = l .loop .i in
-    (search needs,
-    k .close-at .kept .1 .1 .0 ∙ l .loop .inv .1,
-    λ d h. table-step (getD (l .loop .closed) d false) (isMarkOf d (decode (drop (3 + 5 * i) ws))) (isClosed d (readEntries (n - (i + 1)) (drop (3 + 5 * (i + 1)) ws))) (l .loop .inv .2 d h) (closed-from d n ws i (k .before .before .loop-test .taken)) (k .close-at .ensures d h))
+    let i = l .loop .i in (
+      search needs,
+      k .close-at .kept .1 .1 .0 ∙ l .loop .inv .1,
+      λ d h. table-step (getD (l .loop .closed) d false) (isMarkOf d (decode (drop (3 + 5 * i) ws))) (isClosed d (readEntries (n - (i + 1)) (drop (3 + 5 * (i + 1)) ws))) (l .loop .inv .2 d h) (closed-from d n ws i (k .before .before .loop-test .taken)) (k .close-at .ensures d h),
+    )
 
 same-length : tie.Need-same-length Inv-loop μ-loop
 same-length c = c .before .loop .inv .1

@@ -69,11 +69,12 @@ loop-again c =
     let b = l .before .before .before .before .args in
     let m = sym (t .before .more .ensures) ∙ t .if1 .taken in
     let w = past-within (b .file .now) (l .loop .c) m in
-    rw (c .advance .ensures, n .lines-at .ensures)
-    (w .1,
-    omega (arith, lines-at-most (l .loop .c), w .0),
-    l .loop .inv .2 ∙ cause-goes-on (b .file .now) (l .loop .c) m (b .closed .now) (e .before .cause-at .ensures) (e .if2 .left),
-    omega (arith, l .loop .inv .3, lines-step (b .file .now) (l .loop .c) m))
+    rw (c .advance .ensures, n .lines-at .ensures) (
+      w .1,
+      omega (arith, lines-at-most (l .loop .c), w .0),
+      l .loop .inv .2 ∙ cause-goes-on (b .file .now) (l .loop .c) m (b .closed .now) (e .before .cause-at .ensures) (e .if2 .left),
+      omega (arith, l .loop .inv .3, lines-step (b .file .now) (l .loop .c) m),
+    )
 
 returns-2 : tie.Need-returns-2 Inv-loop μ-loop
 unfolding linesOf

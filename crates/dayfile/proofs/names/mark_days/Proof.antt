@@ -53,10 +53,11 @@ loop-again c =
     let a = l .before .before .before .before .args in
     let bs = a .file .now in
     let m = sym (t .before .more .ensures) ∙ t .if1 .taken in
-    rw (c .advance .ensures)
-    (past-within bs (l .loop .c) m .1,
-    k .day-at .kept .1 .1 .1 .0 ∙ l .loop .inv .1,
-    λ d h. table-step (getD (l .loop .days) d false) (any (itemNames (a .party) d) (itemsAt bs (l .loop .c))) (any (itemNames (a .party) d) (leftItems bs (pastStep bs (l .loop .c)))) (l .loop .inv .2 d h) (names-step (itemNames (a .party) d) bs (l .loop .c) m) (k .day-at .ensures d (rw (l .loop .inv .1) h)))
+    rw (c .advance .ensures) (
+      past-within bs (l .loop .c) m .1,
+      k .day-at .kept .1 .1 .1 .0 ∙ l .loop .inv .1,
+      λ d h. table-step (getD (l .loop .days) d false) (any (itemNames (a .party) d) (itemsAt bs (l .loop .c))) (any (itemNames (a .party) d) (leftItems bs (pastStep bs (l .loop .c)))) (l .loop .inv .2 d h) (names-step (itemNames (a .party) d) bs (l .loop .c) m) (k .day-at .ensures d (rw (l .loop .inv .1) h)),
+    )
 
 same-length : tie.Need-same-length Inv-loop μ-loop
 same-length c = c .before .before .loop .inv .1

@@ -54,10 +54,11 @@ loop-again c =
     let a = l .before .before .before .before .args in
     let bs = a .file .now in
     let m = sym (t .before .more .ensures) ∙ t .if1 .taken in
-    rw (c .advance .ensures)
-    (past-within bs (l .loop .c) m .1,
-    k .party-at .kept .1 .1 .0 ∙ l .loop .inv .1,
-    λ p h. table-step (getD (l .loop .parties) p false) (any (itemHas p) (itemsAt bs (l .loop .c))) (any (itemHas p) (leftItems bs (pastStep bs (l .loop .c)))) (l .loop .inv .2 p h) (names-step (itemHas p) bs (l .loop .c) m) (k .party-at .ensures p (rw (l .loop .inv .1) h)))
+    rw (c .advance .ensures) (
+      past-within bs (l .loop .c) m .1,
+      k .party-at .kept .1 .1 .0 ∙ l .loop .inv .1,
+      λ p h. table-step (getD (l .loop .parties) p false) (any (itemHas p) (itemsAt bs (l .loop .c))) (any (itemHas p) (leftItems bs (pastStep bs (l .loop .c)))) (l .loop .inv .2 p h) (names-step (itemHas p) bs (l .loop .c) m) (k .party-at .ensures p (rw (l .loop .inv .1) h)),
+    )
 
 same-length : tie.Need-same-length Inv-loop μ-loop
 same-length c = c .before .before .loop .inv .1

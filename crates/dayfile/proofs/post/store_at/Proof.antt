@@ -26,9 +26,10 @@ unfolding all linesOf
 store-entry-requires c κs =
     let i = c .before .before in
     let s = i .before .before .before .before in
-    let l = c .before .line-at .result in
-    (omega (arith, rw (ne-eqb (s .args .c .left) 0 (i .if1 .left)) at (s .pre .1 .0)),
-    sym (and-true (legal (recordOf (keyOf (s .args .c .party) (s .args .c .day) (l .«entry_type») (l .counterparty)) standing (l .amount)))) ∙ one-line-legal (s .args .file .now) (s .args .c) (i .if1 .left) l (c .before .line-at .ensures) (s .pre .1 .1))
+    let l = c .before .line-at .result in (
+      omega (arith, rw (ne-eqb (s .args .c .left) 0 (i .if1 .left)) at (s .pre .1 .0)),
+      sym (and-true (legal (recordOf (keyOf (s .args .c .party) (s .args .c .day) (l .«entry_type») (l .counterparty)) standing (l .amount)))) ∙ one-line-legal (s .args .file .now) (s .args .c) (i .if1 .left) l (c .before .line-at .ensures) (s .pre .1 .1),
+    )
 
 add-result : tie.Need-add-result
 add-result c =
@@ -44,9 +45,10 @@ unfolding storedFrom
 returns-2 c =
     let k = c .before .before in
     let i = k .before .before .before in
-    let a = i .before .before .before .before .args in
-    (rw (ne-eqb (a .c .left) 0 (i .if1 .left)),
-    k .store-entry .ensures ∙ sym (one-line-stored (a .file .now) (a .c) (i .if1 .left) (k .before .before .line-at .result) (k .before .before .line-at .ensures) (a .book .now) (a .place)))
+    let a = i .before .before .before .before .args in (
+      rw (ne-eqb (a .c .left) 0 (i .if1 .left)),
+      k .store-entry .ensures ∙ sym (one-line-stored (a .file .now) (a .c) (i .if1 .left) (k .before .before .line-at .result) (k .before .before .line-at .ensures) (a .book .now) (a .place)),
+    )
 
 pub store-at-spec : {M : Type 1} → statement M
 store-at-spec =

@@ -69,12 +69,13 @@ loop-again c =
     let l = t .before .before in
     let f = l .before .before .before .before .args .file .now in
     let m = sym (t .before .more .ensures) ∙ t .if1 .taken in
-    rw (c .advance .ensures, k .store-at .ensures .0)
-    (past-within f (l .loop .c) m .1,
-    k .store-at .kept .0 ∙ l .loop .inv .1,
-    omega (arith, l .loop .inv .2, lines-step f (l .loop .c) m),
-    legal-step f (l .loop .c) m (l .loop .inv .3) .1,
-    l .loop .inv .4 ∙ stored-step f (l .loop .c) m (l .loop .book) (l .loop .place) ∙ rw (← k .store-at .ensures .1))
+    rw (c .advance .ensures, k .store-at .ensures .0) (
+      past-within f (l .loop .c) m .1,
+      k .store-at .kept .0 ∙ l .loop .inv .1,
+      omega (arith, l .loop .inv .2, lines-step f (l .loop .c) m),
+      legal-step f (l .loop .c) m (l .loop .inv .3) .1,
+      l .loop .inv .4 ∙ stored-step f (l .loop .c) m (l .loop .book) (l .loop .place) ∙ rw (← k .store-at .ensures .1),
+    )
 
 same-length : tie.Need-same-length Inv-loop μ-loop
 same-length c = c .before .before .loop .inv .1

@@ -52,9 +52,10 @@ loop-again c =
     let t = e .before .before in
     let l = t .before .before in
     let m = sym (t .before .more .ensures) ∙ t .if1 .taken in
-    rw (c .advance .ensures)
-    (past-within _ (l .loop .c) m .1,
-    l .loop .inv .1 ∙ shaped-step _ (l .loop .c) m ∙ rw (passed (e .before .step-ok .ensures) (e .if2 .left)))
+    rw (c .advance .ensures) (
+      past-within _ (l .loop .c) m .1,
+      l .loop .inv .1 ∙ shaped-step _ (l .loop .c) m ∙ rw (passed (e .before .step-ok .ensures) (e .if2 .left)),
+    )
 
 sub-result : tie.Need-sub-result Inv-loop μ-loop
 sub-result c = c .before .before .before .loop .inv .0
