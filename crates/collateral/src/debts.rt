@@ -73,7 +73,7 @@ pub fn day_before(
 {
     let ahead = chooses(walk.ahead, bought, sold);
     let intraday = chooses(walk.intraday, bought_intraday, sold_intraday);
-    let debt = owed_on(
+    let owed = owed_on(
         ahead,
         intraday,
         bought,
@@ -81,8 +81,9 @@ pub fn day_before(
         bought_intraday,
         sold_intraday,
     );
+    let debt = walk.debt + owed;
     Walk {
-        debt: walk.debt + debt,
+        debt,
         ahead: left_after(walk.ahead, ahead),
         intraday: left_after(walk.intraday, intraday),
     }

@@ -116,6 +116,7 @@ pub fn collateral_of(book: &[u32], case: Case) -> Collateral
     let risk = risk_of(case);
     let yek = yek_of(case);
     let larger = numbers::larger(margin, trading);
+    let total = larger + imbalance + risk + yek;
     Collateral {
         answer: 0,
         margin,
@@ -123,6 +124,6 @@ pub fn collateral_of(book: &[u32], case: Case) -> Collateral
         imbalance,
         risk,
         yek,
-        total: larger + imbalance + risk + yek,
+        total,
     }
 }

@@ -3,7 +3,7 @@ use mathlib.Core.Path.{_≡_, refl}
 use mathlib.Core.Logic.{inl, inr}
 use mathlib.Core.List.{List}
 use Prim.Native.Nat.{ℕ, zero, suc, _+_, _-_, _*_, max, _≤_}
-use native.Mathlib.Nat.{add-zero, sub-zero}
+use native.Mathlib.Nat.{add-zero, sub-zero, mul-le-mul}
 use native.Mathlib.Omega.{arith}
 use lib.Dec.{ltb}
 use lib.IntN.{ℤ, pos, subℕ, _-ℤ_}
@@ -15,6 +15,7 @@ use borrow.Author.Tests.{ltb-true, ltb-false}
 use Rattle.numbers.specs.Sums.{total}
 use Rattle.numbers.proofs.TestLaws.{bool-cases}
 use Rattle.numbers.proofs.SignedLaws.{sub-above, sub-below}
+use Rattle.rules.specs.Words.{mostCoefficient}
 use Rattle.rules.specs.Balance.{Volume, dayAhead, delivery, acquired, saleSide, coverSide, balanceOf}
 use Rattle.rules.specs.declared.Tally.{Tally}
 use Rattle.position.specs.Bounded.{mostSum, SumsWithin}
@@ -38,6 +39,10 @@ module _ (a b : ℕ) (ha : a ≤ 4611686018427387904) (hb : b ≤ 46116860184273
 -- a figure less the larger of two
 pub less-larger : (x a b : ℕ) {m : ℕ} {z : ℤ} → m ≡ max a b → z ≡ subℕ x m → z ≡ subℕ x (max a b)
 less-larger x a b e q = rw e at q
+
+-- either side times R
+pub products : {s c R : ℕ} → s ≤ 6 * mostSum → c ≤ 10 * mostSum → R ≤ mostCoefficient → (s * R ≤ 18432000000000000) × (c * R ≤ 30720000000000000)
+products hs hc hr = (mul-le-mul hs hr, mul-le-mul hc hr)
 
 -- the sixteen sums, each by its number
 pub record EachSum (s : List ℕ) : Type 0 where

@@ -14,8 +14,8 @@ chooses-requires-2 c κs = search needs
 owed-on-requires : tie.Need-owed-on-requires
 owed-on-requires c κs = search needs
 
-add-t9 : tie.Need-add-t9
-add-t9 c =
+add-debt : tie.Need-add-debt
+add-debt c =
     let o = c .before in
     let a = o .before .before .before .args in
     omega (arith, owed-limit (o .before .before .chooses .result) (o .before .chooses2 .result) (a .bought) (a .sold) (a .bought-intraday) (a .sold-intraday) (search needs) (search needs))
@@ -40,7 +40,7 @@ day-before-spec =
     chooses-requires
     chooses-requires-2
     owed-on-requires
-    add-t9
+    add-debt
     left-after-requires
     left-after-requires-2
     returns)

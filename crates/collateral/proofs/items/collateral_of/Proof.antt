@@ -33,14 +33,14 @@ yek-of-requires c κs = search needs
 larger-requires : tie.Need-larger-requires
 larger-requires c κs = search needs
 
-add-t9 : tie.Need-add-t9
-add-t9 c = omega (arith, sum-fits c)
+add-total : tie.Need-add-total
+add-total c = omega (arith, sum-fits c)
 
-add-t10 : tie.Need-add-t10
-add-t10 c = omega (arith, sum-fits c)
+add-total-2 : tie.Need-add-total-2
+add-total-2 c = omega (arith, sum-fits c)
 
-add-t11 : tie.Need-add-t11
-add-t11 c = omega (arith, sum-fits c)
+add-total-3 : tie.Need-add-total-3
+add-total-3 c = omega (arith, sum-fits c)
 
 returns : tie.Need-returns
 returns c =
@@ -58,7 +58,7 @@ collateral-of-spec =
     risk-of-requires
     yek-of-requires
     larger-requires
-    add-t9
-    add-t10
-    add-t11
+    add-total
+    add-total-2
+    add-total-3
     returns)

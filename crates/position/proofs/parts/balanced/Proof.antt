@@ -1,12 +1,11 @@
 -- `position::parts::balanced` meets its contract. Assumes nothing.
 use mathlib.Core.Path.{_∙_}
 use Prim.Native.Nat.{_*_}
-use native.Mathlib.Nat.{mul-le-mul}
 use native.Mathlib.Omega.{arith}
 use mir.Syntax.{w64}
 use mir.ValLaws.{toZ-ofZ}
 use borrow.Author.Needs.{needs}
-use Rattle.position.proofs.BalanceLaws.{less-larger}
+use Rattle.position.proofs.BalanceLaws.{less-larger, products}
 use Rattle.position.proofs.parts.balanced.Statement.{statement}
 use Rattle.position.proofs.parts.balanced.Tie as tie
 
@@ -14,16 +13,19 @@ mul-least : tie.Need-mul-least
 mul-least c = search needs
 
 mul-held : tie.Need-mul-held
-mul-held c = omega (arith, mul-le-mul (c .pre .1) (c .pre .2))
+mul-held c = let p = products (c .pre .0) (c .pre .1) (c .pre .2) in omega arith
 
 mul-difference : tie.Need-mul-difference
-mul-difference c = search needs
+mul-difference c = let p = products (c .pre .0) (c .pre .1) (c .pre .2) in omega arith
 
 larger-requires : tie.Need-larger-requires
 larger-requires c κs = search needs
 
 difference-requires : tie.Need-difference-requires
-difference-requires c κs = omega (arith, mul-le-mul (c .before .pre .1) (c .before .pre .2))
+difference-requires c κs =
+    let a = c .before .pre in
+    let p = products (a .0) (a .1) (a .2) in
+    omega arith
 
 returns : tie.Need-returns
 returns c =

@@ -1,0 +1,139 @@
+-- `control::passes::cancel` meets its contract. The loop's invariant: the entries passed are as the pass leaves them, the others as they were. Assumes nothing.
+use mathlib.Core.Path.{_≡_, refl, sym, ap, _∙_}
+use mathlib.Core.Logic.{⊎-elim}
+use Prim.Native.Nat.{_+_, _-_, _*_, _≤_, _<_}
+use native.Mathlib.Nat.{add-zero}
+use native.Mathlib.Omega.{arith}
+use lib.ListN.{length, take}
+use Rattle.numbers.specs.Sums.{total, count}
+use Rattle.rules.specs.Words.{countOf, entries}
+use Rattle.rules.specs.Control.{isDoomed}
+use Rattle.rules.proofs.WordLaws.{book-facts}
+use Rattle.book.proofs.BookCode.{Placed, book-long}
+use Rattle.control.specs.Tables.{flagged}
+use Rattle.control.proofs.ScanLaws.{scan-few, scan-end}
+use Rattle.control.proofs.CancelLaws.{Through, through-none, through-all, through-length, through-placed, through-party, through-read, through-cancelled, through-kept, count-more, count-few}
+use borrow.Author.Needs.{needs}
+use Rattle.control.proofs.passes.cancel.Statement.{statement}
+use Rattle.control.proofs.passes.cancel.Tie as tie
+
+abbrev Inv-loop : tie.InvT-loop
+Inv-loop book₀ day flags last n₀ i₀ book n i =
+    (i ≤ last) × Through (flagged flags) day book₀ i book × (n ≡ count (isDoomed (flagged flags) day) (take i (entries book₀)))
+
+abbrev μ-loop : tie.MeasureT-loop
+μ-loop book₀ day flags last n₀ i₀ book n i = last - i
+
+abbrev start : tie.At-loop Inv-loop μ-loop → tie.Start Inv-loop μ-loop
+start l = l .before .before .before .before
+
+-- in a turn the number is that of an entry
+taken : (c : tie.In-loop Inv-loop μ-loop) → c .before .loop .i < countOf (start (c .before) .args .book .now)
+taken c = rw (c .before .before .count-of .ensures) at (c .loop-test .taken)
+
+placed : (c : tie.In-loop Inv-loop μ-loop) → Placed (c .before .loop .book) (c .before .loop .i)
+placed c =
+    let l = c .before in
+    let s = start l in
+    through-placed (flagged (s .args .flags .now)) (s .args .day) (s .args .book .now) (s .pre) (l .loop .i) (taken c) (l .loop .book) (l .loop .inv .1)
+
+count-of-requires : tie.Need-count-of-requires Inv-loop μ-loop
+count-of-requires c κs = let s = c .before .before in book-long (s .args .book .now) (s .pre)
+
+cast-count : tie.Need-cast-count Inv-loop μ-loop
+cast-count c = search needs
+
+loop-holds : tie.Need-loop-holds Inv-loop μ-loop
+unfolding count total
+loop-holds c = let s = c .before .before .before in (search needs, through-none (flagged (s .args .flags .now)) (s .args .day) (s .args .book .now) (s .pre), refl)
+
+mul-read-at : tie.Need-mul-read-at Inv-loop μ-loop
+mul-read-at c = search needs
+
+add-read-at : tie.Need-add-read-at Inv-loop μ-loop
+add-read-at c = search needs
+
+read-at-requires : tie.Need-read-at-requires Inv-loop μ-loop
+read-at-requires c κs = placed (c .before) .within
+
+is-doomed-requires : tie.Need-is-doomed-requires Inv-loop μ-loop
+is-doomed-requires c κs =
+    let l = c .before .before .before in
+    let s = start l in
+    through-party (flagged (s .args .flags .now)) (s .args .day) (s .args .book .now) (s .pre) (l .loop .i) (taken (c .before .before)) (l .loop .book) (l .loop .inv .1) (c .read-at .result) (c .read-at .ensures)
+
+set-status-requires : tie.Need-set-status-requires Inv-loop μ-loop
+set-status-requires c κs = let p = placed (c .before .before .before .before .before) in (p .within, (p .ok, search needs))
+
+add-n : tie.Need-add-n Inv-loop μ-loop
+add-n c =
+    let l = c .before .before .before .before .before .before .before .before .before in
+    let s = start l in
+    omega (arith, l .loop .inv, count-few (isDoomed (flagged (s .args .flags .now)) (s .args .day)) (l .loop .i) (entries (s .args .book .now)), taken (c .before .before .before .before .before .before .before .before), scan-few (s .args .book .now) (s .pre))
+
+add-i : tie.Need-add-i Inv-loop μ-loop
+add-i c = search needs
+
+loop-less : tie.Need-loop-less Inv-loop μ-loop
+loop-less c = search needs
+
+loop-again : tie.Need-loop-again Inv-loop μ-loop
+loop-again c =
+    let l = c .before .before .before .before .before in
+    let s = start l in
+    let who = flagged (s .args .flags .now) in
+    let d = s .args .day in
+    let ws = s .args .book .now in
+    let t = taken (c .before .before .before .before) in
+    let e = c .before .before .read-at .result in
+    let q = c .before .before .read-at .ensures in
+    let r = through-read who d ws (s .pre) (l .loop .i) t (l .loop .book) (l .loop .inv .1) e q in
+    let m = count-more who d (l .loop .i) (entries ws) (rw (book-facts ws (s .pre) .count) t) in
+    ⊎-elim
+    (λ w.
+    let y = sym (c .before .is-doomed .ensures) ∙ w .0 .taken in (
+      omega arith,
+      w .5 ∙ through-cancelled who d ws (s .pre) (l .loop .i) t (l .loop .book) (l .loop .inv .1) e q y (w .2 .ensures),
+      w .6 ∙ ap (λ n. n + 1) (l .loop .inv .2) ∙ sym (m ∙ rw (← r, y)),
+    ))
+    (λ w.
+    let y = sym (c .before .is-doomed .ensures) ∙ w .0 .left in (
+      omega arith,
+      w .1 ∙ through-kept who d ws (s .pre) (l .loop .i) t (l .loop .book) (l .loop .inv .1) e q y,
+      w .2 ∙ l .loop .inv .2 ∙ sym (m ∙ rw (← r, y, add-zero)),
+    ))
+    (c .if1 .came)
+
+same-length : tie.Need-same-length Inv-loop μ-loop
+same-length c = let l = c .before in let s = start l in through-length (flagged (s .args .flags .now)) (s .args .day) (s .args .book .now) (s .pre) (l .loop .i) (l .loop .book) (l .loop .inv .1)
+
+returns : tie.Need-returns Inv-loop μ-loop
+returns c =
+    let l = c .before in
+    let s = start l in
+    let ws = s .args .book .now in
+    let h = rw (l .before .count-of .ensures) at (c .loop-test .left) in (
+      l .loop .inv .2 ∙ rw (scan-end ws (s .pre) (l .loop .i) h),
+      through-all (flagged (s .args .flags .now)) (s .args .day) ws (s .pre) (l .loop .i) (l .loop .book) h (l .loop .inv .1),
+    )
+
+pub cancel-spec : {M : Type 1} → statement M
+cancel-spec =
+    tie.close
+    (tie.spec
+    Inv-loop
+    μ-loop
+    count-of-requires
+    cast-count
+    loop-holds
+    mul-read-at
+    add-read-at
+    read-at-requires
+    is-doomed-requires
+    set-status-requires
+    add-n
+    add-i
+    loop-less
+    loop-again
+    same-length
+    returns)

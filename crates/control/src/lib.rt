@@ -1,0 +1,71 @@
+// Control of a day (document 01, 'Control of a day').
+ghost use mathlib.Core.Path.{_≡_};
+ghost use Rattle.rules.specs.Control.{controlCause, controlAnswer, controlWords};
+use book::refusals;
+use book::words;
+use rules::Controlled;
+use sums::NUMBERS;
+
+mod pairs;
+mod passes;
+mod sums;
+
+fn control_cause(book: &[u32], day: u32) -> u32
+    ensures { λ r. ⌜ r ≡ controlCause (now (book .entry)) day ⌝ }
+{
+    if !book::is_book(book) {
+        return refusals::NOT_A_BOOK;
+    }
+    if !words::day_ok(day) {
+        return refusals::BAD_DAY;
+    }
+    if words::is_closed(book, day) {
+        return refusals::DAY_CLOSED;
+    }
+    let count = words::count_of(book) as usize;
+    if words::room(book.len()) <= count {
+        return refusals::NO_ROOM;
+    }
+    0
+}
+
+// First pass: every party, by the book at entry. Second pass: the buyers of repeated pairs, by the book after the first.
+fn run(book: &mut [u32], day: u32) -> Controlled
+    requires { ⌜ controlCause (now book) day ≡ 0 ⌝ }
+    ensures answer { λ r. ⌜ r ≡ controlAnswer (now (book .entry)) day ⌝ }
+    ensures words { λ r. ⌜ now (book .exit) ≡ controlWords (now (book .entry)) day ⌝ }
+{
+    let everyone = [true; NUMBERS];
+    let mut sellers = [false; NUMBERS];
+    sums::detect(book, day, &everyone, &mut sellers);
+    let first = passes::pass(book, day, &sellers);
+    let mut repeated = [false; NUMBERS];
+    pairs::flag_buyers(book, day, &mut repeated);
+    let mut buyers = [false; NUMBERS];
+    sums::detect(book, day, &repeated, &mut buyers);
+    let second = passes::pass(book, day, &buyers);
+    passes::append_mark(book, day);
+    Controlled {
+        answer: 0,
+        first: first.parties,
+        second: second.parties,
+        cancelled: first.entries + second.entries,
+    }
+}
+
+// Cancels the bilateral sales of detected parties and closes the day.
+pub fn control(book: &mut [u32], day: u32) -> Controlled
+    ensures answer { λ r. ⌜ r ≡ controlAnswer (now (book .entry)) day ⌝ }
+    ensures words { λ r. ⌜ now (book .exit) ≡ controlWords (now (book .entry)) day ⌝ }
+{
+    let cause = control_cause(book, day);
+    if cause != 0 {
+        return Controlled {
+            answer: cause,
+            first: 0,
+            second: 0,
+            cancelled: 0,
+        };
+    }
+    run(book, day)
+}

@@ -1,0 +1,88 @@
+// Internal: one pass of a control over a checked book, and the mark. A caller meets each `requires`.
+ghost use mathlib.Core.Path.{_≡_};
+ghost use mathlib.Core.Bool.{true, false};
+ghost use Prim.Native.Nat.{_+_, _<_, _≤_};
+ghost use lib.ListN.{length};
+ghost use Rattle.numbers.specs.Sums.{count};
+ghost use Rattle.rules.specs.Entry.{keyOf, markType, lastParty, lastDay};
+ghost use Rattle.rules.specs.Words.{isBook, entries, countOf, roomIn};
+ghost use Rattle.rules.specs.Book.{posted};
+ghost use Rattle.rules.specs.Control.{isDoomed, detectedParties};
+ghost use Rattle.control.specs.Tables.{flagged, recordRead, cancelledWords, passOf};
+use crate::sums::Flags;
+use crate::sums::NUMBERS;
+use book::words;
+use rules::EntryRead;
+
+// The parties detected in a pass and the entries cancelled.
+pub struct Passed {
+    pub parties: u32,
+    pub entries: u32,
+}
+
+// A standing bilateral sale of the day, counterparty above 0, of a flagged party.
+fn is_doomed(e: EntryRead, day: u32, flags: &Flags) -> bool
+    requires { ⌜ e .party ≤ lastParty ⌝ }
+    ensures { λ r. ⌜ r ≡ isDoomed (flagged (now (flags .entry))) day (recordRead e) ⌝ }
+{
+    (e.status == words::STANDING)
+        & (e.day == day)
+        & ((e.entry_type == words::BILATERAL) & (0 < e.counterparty))
+        & flags[e.party as usize]
+}
+
+// The sales of flagged parties become cancelled, and are counted.
+fn cancel(book: &mut [u32], day: u32, flags: &Flags) -> u32
+    requires { ⌜ isBook (now book) ≡ true ⌝ }
+    ensures cancelled { λ r. ⌜ r ≡ count (isDoomed (flagged (now (flags .entry))) day) (entries (now (book .entry))) ⌝ }
+    ensures words { λ r. ⌜ now (book .exit) ≡ cancelledWords (flagged (now (flags .entry))) day (now (book .entry)) ⌝ }
+{
+    let count = words::count_of(book) as usize;
+    let mut n = 0;
+    let mut i = 0;
+    while i < count {
+        let e = words::read_at(book, 3 + 5 * i);
+        if is_doomed(e, day, flags) {
+            words::set_status(book, i, words::CANCELLED);
+            n += 1;
+        }
+        i += 1;
+    }
+    n
+}
+
+fn count_flags(flags: &Flags) -> u32
+    ensures { λ r. ⌜ r ≡ detectedParties (flagged (now (flags .entry))) ⌝ }
+{
+    let mut n = 0;
+    let mut p = 0;
+    while p < NUMBERS {
+        if flags[p] {
+            n += 1;
+        }
+        p += 1;
+    }
+    n
+}
+
+// One pass: the flagged parties are counted, and their sales cancelled together.
+pub fn pass(book: &mut [u32], day: u32, flags: &Flags) -> Passed
+    requires { ⌜ isBook (now book) ≡ true ⌝ }
+    ensures counts { λ r. ⌜ r ≡ passOf (flagged (now (flags .entry))) day (now (book .entry)) ⌝ }
+    ensures words { λ r. ⌜ now (book .exit) ≡ cancelledWords (flagged (now (flags .entry))) day (now (book .entry)) ⌝ }
+{
+    let parties = count_flags(flags);
+    let entries = cancel(book, day, flags);
+    Passed { parties, entries }
+}
+
+// The mark of a day takes the next place.
+pub fn append_mark(book: &mut [u32], day: u32)
+    requires { ⌜ isBook (now book) ≡ true ⌝ }
+    requires { ⌜ (countOf (now book) < roomIn (length (now book))) × (day ≤ lastDay) ⌝ }
+    ensures { λ _. ⌜ now (book .exit) ≡ posted (now (book .entry)) (keyOf 0 day markType 0) 0 ⌝ }
+{
+    let count = words::count_of(book);
+    words::store_entry(book, words::place_of(count), 0, day, words::MARK, 0, 0);
+    book[0] = words::COUNT_WORD + (count + 1);
+}
