@@ -16,7 +16,7 @@ use Rattle.rules.specs.Book.{isClosed, shutTo}
 use Rattle.rules.specs.DayFile.{Item, line, emptyBlock, itemCause, items, linesOf, isFile, isShaped, wordsOf, mostBytes, fileCause, fileAnswer}
 use Rattle.rules.specs.declared.FileRead.{FileRead}
 use Rattle.rules.proofs.WordLaws.{no-fault}
-use Rattle.dayfile.specs.Check.{tableDays, causeBy, firstCause, scanned}
+use Rattle.dayfile.specs.Check.{tableDays, nonePosted, causeBy, firstCause, scanned}
 use Rattle.dayfile.proofs.CheckLaws.{else-stop, else-none}
 
 -- a file is no longer than a file may be
@@ -69,7 +69,7 @@ module _ (ws bs : List ℕ) (cs : List Bool) (book : isBook ws ≡ true) (file :
     answer-refused n =
         scan ∙ answer-by (cause-of-file ∙ else-stop (firstCause cs (items bs)) _ (λ z. n (first ∙ z))) refl
 
-    pub answer-full : r .answer ≡ 0 → roomIn (length ws) < countOf ws + r .posted → _≡_ {A = FileRead} (record { answer = 9; posted = 0 }) (fileAnswer ws bs)
+    pub answer-full : r .answer ≡ 0 → roomIn (length ws) < countOf ws + r .posted → nonePosted 9 ≡ fileAnswer ws bs
     answer-full z h =
         answer-by (cause-of-file ∙ rw (← first, z, lt-leb (countOf ws + linesIn) (roomIn (length ws)) (rw (← lines z) h))) refl
 

@@ -17,17 +17,17 @@ use Rattle.rules.specs.DayFile.{itemCause, items, linesOf, isFile, fileCause, f
 use Rattle.rules.specs.declared.FileRead.{FileRead}
 use Rattle.rules.proofs.WordLaws.{book-facts, room-words}
 use Rattle.rules.proofs.BookLaws.{Stays, laid-stays}
-use Rattle.dayfile.specs.Check.{storedFrom}
+use Rattle.dayfile.specs.Check.{nonePosted, storedFrom}
 use Rattle.dayfile.proofs.PostLaws.{posted-all, lines-legal}
 
 abbrev Answers : FileRead → List ℕ → List ℕ → List ℕ → Type 0
 Answers r vs ws bs = (r ≡ fileAnswer ws bs) × (vs ≡ fileWords ws bs)
 
-pub not-a-book : (ws bs : List ℕ) → isBook ws ≡ false → Answers (record { answer = 1; posted = 0 }) ws ws bs
+pub not-a-book : (ws bs : List ℕ) → isBook ws ≡ false → Answers (nonePosted 1) ws ws bs
 unfolding fileAnswer fileWords fileCause
 not-a-book ws bs b = (rw b, rw b)
 
-pub not-a-file : (ws bs : List ℕ) → isBook ws ≡ true → isFile bs ≡ false → Answers (record { answer = 2; posted = 0 }) ws ws bs
+pub not-a-file : (ws bs : List ℕ) → isBook ws ≡ true → isFile bs ≡ false → Answers (nonePosted 2) ws ws bs
 unfolding fileAnswer fileWords fileCause
 not-a-file ws bs b f = (rw (b, f), rw (b, f))
 

@@ -29,6 +29,10 @@ firstCause closed is = firstOf (map (causeBy closed) is)
 abbrev pub linesAt : Cursor → ℕ
 linesAt c = cond (eqb (c .left) 0) 0 1
 
+-- a file that is refused posts no line
+abbrev pub nonePosted : ℕ → FileRead
+nonePosted cause = record { answer = cause; posted = 0 }
+
 -- the first cause of the items, and how many lines they have
 unfoldable pub scanned : List Bool → List Item → FileRead
 scanned closed is =

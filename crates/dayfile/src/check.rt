@@ -13,6 +13,11 @@ ghost use Rattle.dayfile.specs.Walk.{isMore, itemsAt};
 ghost use Rattle.dayfile.specs.Check.{tableDays, causeBy, firstCause, linesAt, scanned};
 use crate::Cursor;
 use crate::walk;
+use book::refusals::BAD_DAY;
+use book::refusals::BAD_PARTY;
+use book::refusals::DAY_CLOSED;
+use book::refusals::NO_ROOM;
+use book::words::MARK;
 use rules::FileRead;
 
 // Marks the day of a mark as closed.
@@ -22,7 +27,7 @@ fn close_at(book: &[u32], at: usize, closed: &mut [bool])
     requires { ⌜ length (now closed) ≡ tableDays ⌝ }
     ensures { λ _. ⌜ ((d : ℕ) → d < tableDays → getD (now (closed .exit)) d false ≡ getD (now (closed .entry)) d false || isMarkOf d (decode (drop at (now (book .entry))))) ⌝ }
 {
-    if book::words::type_at(book, at) != 21 {
+    if book::words::type_at(book, at) != MARK {
         return;
     }
     let day = book::words::day_at(book, at) as usize;
@@ -48,10 +53,10 @@ pub fn block_cause(party: u32, day: u32) -> u32
     ensures { λ r. ⌜ r ≡ itemCause [] (emptyBlock party day) ⌝ }
 {
     if !book::words::party_ok(party) {
-        return 3;
+        return BAD_PARTY;
     }
     if !book::words::day_ok(day) {
-        return 4;
+        return BAD_DAY;
     }
     0
 }
@@ -67,15 +72,15 @@ pub fn line_cause(
     requires { ⌜ length (now closed) ≡ tableDays ⌝ }
     ensures { λ r. ⌜ r ≡ causeBy (now (closed .entry)) (line (keyOf party day «entry_type» counterparty) amount) ⌝ }
 {
-    let cause = book::words::fault_of(party, day, entry_type, counterparty, amount);
-    if cause != 0 {
-        return cause;
+    let fault = book::words::fault_of(party, day, entry_type, counterparty, amount);
+    if fault != 0 {
+        return fault;
     }
     if !book::words::is_bilateral(entry_type, counterparty) {
         return 0;
     }
     if closed[day as usize] {
-        return 8;
+        return DAY_CLOSED;
     }
     0
 }
@@ -151,10 +156,7 @@ fn answer_with(book: &[u32], file: &[u8], closed: &mut [bool]) -> FileRead
     }
     let used = book::words::count_of(book) as usize + found.posted as usize;
     if book::words::room(book.len()) < used {
-        return FileRead {
-            answer: 9,
-            posted: 0,
-        };
+        return crate::refused(NO_ROOM);
     }
     found
 }

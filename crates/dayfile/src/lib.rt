@@ -1,12 +1,21 @@
 // The day file: lines posted into a book, all or none (document 01, 'Day file').
 ghost use mathlib.Core.Path.{_≡_};
 ghost use Rattle.rules.specs.DayFile.{isFile, fileAnswer, fileWords};
+ghost use Rattle.dayfile.specs.Check.{nonePosted};
+use book::refusals::NOT_A_BOOK;
+use book::words::COUNT_WORD;
 use rules::FileRead;
 
 pub mod check;
 pub mod names;
 pub mod post;
 pub mod walk;
+
+// A file is refused by its length, kinds, spare or status bits, or ending.
+pub const BAD_FILE: u32 = 2;
+
+// A file has no more bytes than this.
+pub const MOST_BYTES: usize = 65536;
 
 // Where a walk of a file stands: the byte it has come to, the lines of the block still to come, and the block's party and day.
 pub struct Cursor {
@@ -28,7 +37,7 @@ pub fn is_file(file: &[u8]) -> bool
     ensures { λ r. ⌜ r ≡ isFile (now (file .entry)) ⌝ }
 {
     let size = file.len();
-    if size > 65536 {
+    if size > MOST_BYTES {
         return false;
     }
     if size % 4 != 0 {
@@ -37,22 +46,25 @@ pub fn is_file(file: &[u8]) -> bool
     walk::shaped(file)
 }
 
+fn refused(cause: u32) -> FileRead
+    ensures { λ r. ⌜ r ≡ nonePosted cause ⌝ }
+{
+    FileRead {
+        answer: cause,
+        posted: 0,
+    }
+}
+
 // Posts the lines of a file into a book: all of them or none.
 pub fn read_file(book: &mut [u32], file: &[u8]) -> FileRead
     ensures answer { λ r. ⌜ r ≡ fileAnswer (now (book .entry)) (now (file .entry)) ⌝ }
     ensures words { λ r. ⌜ now (book .exit) ≡ fileWords (now (book .entry)) (now (file .entry)) ⌝ }
 {
     if !book::is_book(book) {
-        return FileRead {
-            answer: 1,
-            posted: 0,
-        };
+        return refused(NOT_A_BOOK);
     }
     if !is_file(file) {
-        return FileRead {
-            answer: 2,
-            posted: 0,
-        };
+        return refused(BAD_FILE);
     }
     let found = check::answer_of(book, file);
     if found.answer != 0 {
@@ -60,6 +72,6 @@ pub fn read_file(book: &mut [u32], file: &[u8]) -> FileRead
     }
     let count = book::words::count_of(book);
     post::store_lines(book, file, count as usize);
-    book[0] = 0x60000000 + (count + found.posted);
+    book[0] = COUNT_WORD + (count + found.posted);
     found
 }

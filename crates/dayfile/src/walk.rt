@@ -7,9 +7,7 @@ ghost use Rattle.rules.specs.DayFile.{isHead, isLine, isShaped, wordsOf};
 ghost use Rattle.dayfile.specs.Walk.{wordAt, start, isMore, headAt, pastStep, lineAt, isStepOk};
 use crate::Cursor;
 use crate::Line;
-
-// A word's top four bits of 32 are its kind (01, 'The words').
-const KIND: u32 = 268435456;
+use book::words::KIND;
 
 fn word_of(a: u8, b: u8, c: u8, d: u8) -> u32
     ensures { λ r. ⌜ r ≡ a + b * 256 + c * 65536 + d * 16777216 ⌝ }

@@ -58,7 +58,7 @@ pub fn report_from(fd: i32, buffer: &mut [u8], out: &mut [u8]) -> usize
 {
     let input = read_whole(fd, buffer);
     if input.failed {
-        return crate::refused(2, out);
+        return crate::refused(dayfile::BAD_FILE, out);
     }
     let count = input.count;
     crate::report(&buffer[..count], out)

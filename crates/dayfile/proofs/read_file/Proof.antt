@@ -11,27 +11,35 @@ use Rattle.dayfile.proofs.read_file.Tie as tie
 is-book-requires : tie.Need-is-book-requires
 is-book-requires c κs = search needs
 
+refused-requires : tie.Need-refused-requires
+refused-requires c κs = search needs
+
 same-length : tie.Need-same-length
 same-length c = search needs
 
 returns : tie.Need-returns
 returns c =
-    let a = c .before .before .before .before .before .args in
-    let r = not-a-book (a .book .now) (a .file .now) (failed (c .before .is-book .ensures) (c .if1 .taken)) in
-    (r .0, r .1)
+    let i = c .before in
+    let a = i .before .before .before .before .before .args in
+    let r = not-a-book (a .book .now) (a .file .now) (failed (i .before .is-book .ensures) (i .if1 .taken)) in
+    (c .refused .ensures ∙ r .0, r .1)
 
 is-file-requires : tie.Need-is-file-requires
 is-file-requires c κs = search needs
+
+refused-requires-2 : tie.Need-refused-requires-2
+refused-requires-2 c κs = search needs
 
 same-length-2 : tie.Need-same-length-2
 same-length-2 c = search needs
 
 returns-2 : tie.Need-returns-2
 returns-2 c =
-    let i = c .before .before in
+    let j = c .before in
+    let i = j .before .before in
     let a = i .before .before .before .before .before .args in
-    let r = not-a-file (a .book .now) (a .file .now) (passed (i .before .is-book .ensures) (i .if1 .left)) (failed (c .before .is-file .ensures) (c .if2 .taken)) in
-    (r .0, r .1)
+    let r = not-a-file (a .book .now) (a .file .now) (passed (i .before .is-book .ensures) (i .if1 .left)) (failed (j .before .is-file .ensures) (j .if2 .taken)) in
+    (c .refused2 .ensures ∙ r .0, r .1)
 
 answer-of-requires : tie.Need-answer-of-requires
 answer-of-requires c κs =
@@ -96,9 +104,11 @@ read-file-spec =
     tie.close
     (tie.spec
     is-book-requires
+    refused-requires
     same-length
     returns
     is-file-requires
+    refused-requires-2
     same-length-2
     returns-2
     answer-of-requires

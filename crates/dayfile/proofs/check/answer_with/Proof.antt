@@ -20,8 +20,7 @@ close-days-requires c κs = search needs
 scan-requires : tie.Need-scan-requires
 scan-requires c κs =
     let k = c .before .before .before in
-    let s = k .before .before .before .before .before in
-    (file-bytes _ (s .pre .1 .0), k .close-days .kept .1 .0 ∙ s .pre .1 .1 .0)
+    (file-bytes _ (entry k .pre .1 .0), k .close-days .kept .1 .0 ∙ entry k .pre .1 .1 .0)
 
 same-length : tie.Need-same-length
 same-length c = search needs
@@ -33,7 +32,7 @@ returns c =
     answer-refused _ _ _ (entry k .pre .0) (entry k .pre .1 .0) (table k) (n .scan .ensures) (c .if1 .taken)
 
 count-of-requires : tie.Need-count-of-requires
-count-of-requires c κs = book-long _ (c .before .before .before .before .before .before .before .before .before .before .before .pre .0)
+count-of-requires c κs = book-long _ (entry (c .before .before .before .before .before .before) .pre .0)
 
 cast-used : tie.Need-cast-used
 cast-used c = search needs
@@ -47,14 +46,18 @@ add-used c = search needs
 room-requires : tie.Need-room-requires
 room-requires c κs = search needs
 
+refused-requires : tie.Need-refused-requires
+refused-requires c κs = search needs
+
 same-length-2 : tie.Need-same-length-2
 same-length-2 c = search needs
 
 returns-2 : tie.Need-returns-2
 returns-2 c =
-    let n = c .before .before .before .before .before .before in
+    let i = c .before in
+    let n = i .before .before .before .before .before .before in
     let k = n .before .before .before .before in
-    answer-full _ _ _ (entry k .pre .0) (entry k .pre .1 .0) (table k) (n .scan .ensures) (c .before .before .before .before .if1 .left) (rw (← c .before .before .before .count-of .ensures, ← c .before .room .ensures) (c .if2 .taken))
+    c .refused .ensures ∙ answer-full _ _ _ (entry k .pre .0) (entry k .pre .1 .0) (table k) (n .scan .ensures) (i .before .before .before .before .if1 .left) (rw (← i .before .before .before .count-of .ensures, ← i .before .room .ensures) (i .if2 .taken))
 
 same-length-3 : tie.Need-same-length-3
 same-length-3 c = search needs
@@ -78,6 +81,7 @@ answer-with-spec =
     cast-used-2
     add-used
     room-requires
+    refused-requires
     same-length-2
     returns-2
     same-length-3
