@@ -1,0 +1,5 @@
+pub mod BytesLaws
+pub mod TableLaws
+pub mod CutLaws
+pub mod CodingLaws
+pub mod CallLaws

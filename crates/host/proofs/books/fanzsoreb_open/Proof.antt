@@ -1,0 +1,79 @@
+-- `host::books::fanzsoreb_open` meets its contract. Assumes nothing.
+use mathlib.Core.Path.{_∙_, ap}
+use borrow.Author.Needs.{needs}
+use borrow.Author.Tests.{eq-eqb}
+use lib.ListN.{length}
+use Rattle.rules.specs.Book.{openCause}
+use Rattle.host.proofs.CodingLaws.{parts, written-bytes}
+use Rattle.host.proofs.CallLaws.{open-odd, on-open, openCall}
+use Rattle.host.proofs.books.fanzsoreb_open.Statement.{statement}
+use Rattle.host.proofs.books.fanzsoreb_open.Tie as tie
+
+returns : tie.Need-returns
+returns c =
+    let a = c .before .before .args in
+    let o = open-odd (a .book .now) (a .coefficient) (a .tolerance) (c .if1 .taken) in
+    (o .0, o .1)
+
+slice-aggregate-decode : tie.Need-slice-aggregate-decode
+slice-aggregate-decode c = search needs
+
+decode-requires : tie.Need-decode-requires
+decode-requires c κs = search needs
+
+array-borrow-prefix-words : tie.Need-array-borrow-prefix-words
+array-borrow-prefix-words c = search needs
+
+slice-aggregate-open : tie.Need-slice-aggregate-open
+slice-aggregate-open c = search parts
+
+open-requires : tie.Need-open-requires
+open-requires c κs = search needs
+
+array-share-prefix-words : tie.Need-array-share-prefix-words
+array-share-prefix-words c = search parts
+
+slice-aggregate-write-back : tie.Need-slice-aggregate-write-back
+slice-aggregate-write-back c = search parts
+
+write-back-requires : tie.Need-write-back-requires
+write-back-requires c κs = search parts
+
+same-length : tie.Need-same-length
+same-length c = search needs
+
+returns-2 : tie.Need-returns-2
+returns-2 c =
+    let p = c .before .before .before .before .before .before in
+    let d = p .before .before .before .decode in
+    let s = p .before .before .before .before .before .before .before .before in
+    let bs = s .args .book .now in
+    let R = s .args .coefficient in
+    let TM = s .args .tolerance in (
+      p .«open» .ensures .0 ∙ ap (λ ws. openCause (length ws) R TM) (d .ensures .read) ∙ on-open bs R TM (eq-eqb _ _ (p .before .before .before .before .before .before .if1 .left)),
+      c .before .before .write-back .ensures
+          ∙ written-bytes (openCall bs R TM) (d .last .1 .0) (p .«open» .last .0) (d .result) _ (record {
+            bytes = λ i. p .before .before .before .before .before .before .before .slice-known .given i .fits;
+            read = d .ensures;
+            array = d .kept .1 .0;
+            kept = p .«open» .kept .0;
+            left = p .«open» .ensures .1;
+            answered = p .«open» .ensures .0;
+          }),
+    )
+
+pub fanzsoreb-open-spec : {M : Type 1} → statement M
+fanzsoreb-open-spec =
+    tie.close
+    (tie.spec
+    returns
+    slice-aggregate-decode
+    decode-requires
+    array-borrow-prefix-words
+    slice-aggregate-open
+    open-requires
+    array-share-prefix-words
+    slice-aggregate-write-back
+    write-back-requires
+    same-length
+    returns-2)

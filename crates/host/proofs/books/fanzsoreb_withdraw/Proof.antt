@@ -1,0 +1,68 @@
+-- `host::books::fanzsoreb_withdraw` meets its contract. Assumes nothing.
+use mathlib.Core.Path.{_∙_, ap}
+use borrow.Author.Needs.{needs}
+use Rattle.rules.specs.Book.{withdrawCause}
+use Rattle.host.proofs.CodingLaws.{parts, written-bytes}
+use Rattle.host.proofs.CallLaws.{on-withdraw, withdrawCall}
+use Rattle.host.proofs.books.fanzsoreb_withdraw.Statement.{statement}
+use Rattle.host.proofs.books.fanzsoreb_withdraw.Tie as tie
+
+slice-aggregate-decode : tie.Need-slice-aggregate-decode
+slice-aggregate-decode c = search needs
+
+decode-requires : tie.Need-decode-requires
+decode-requires c κs = search needs
+
+array-borrow-prefix-words : tie.Need-array-borrow-prefix-words
+array-borrow-prefix-words c = search needs
+
+slice-aggregate-withdraw : tie.Need-slice-aggregate-withdraw
+slice-aggregate-withdraw c = search parts
+
+withdraw-requires : tie.Need-withdraw-requires
+withdraw-requires c κs = search needs
+
+array-share-prefix-words : tie.Need-array-share-prefix-words
+array-share-prefix-words c = search parts
+
+slice-aggregate-write-back : tie.Need-slice-aggregate-write-back
+slice-aggregate-write-back c = search parts
+
+write-back-requires : tie.Need-write-back-requires
+write-back-requires c κs = search parts
+
+same-length : tie.Need-same-length
+same-length c = search needs
+
+returns : tie.Need-returns
+returns c =
+    let p = c .before .before .before .before .before .before in
+    let d = p .before .before .before .decode in
+    let s = p .before .before .before .before .before .before .before in
+    let bs = s .args .book .now in
+    let number = s .args .number in
+    ( p .withdraw .ensures .0 ∙ ap (λ ws. withdrawCause ws number) (d .ensures .read) ∙ on-withdraw bs number
+    , c .before .before .write-back .ensures
+    ∙ written-bytes (withdrawCall bs number) (d .last .1 .0) (p .withdraw .last .0) (d .result) _ (record {
+      bytes = λ i. p .before .before .before .before .before .before .slice-known .given i .fits;
+      read = d .ensures;
+      array = d .kept .1 .0;
+      kept = p .withdraw .kept .0;
+      left = p .withdraw .ensures .1;
+      answered = p .withdraw .ensures .0;
+    }))
+
+pub fanzsoreb-withdraw-spec : {M : Type 1} → statement M
+fanzsoreb-withdraw-spec =
+    tie.close
+    (tie.spec
+    slice-aggregate-decode
+    decode-requires
+    array-borrow-prefix-words
+    slice-aggregate-withdraw
+    withdraw-requires
+    array-share-prefix-words
+    slice-aggregate-write-back
+    write-back-requires
+    same-length
+    returns)

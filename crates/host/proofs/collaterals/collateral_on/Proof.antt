@@ -1,0 +1,43 @@
+-- `host::collaterals::collateral_on` meets its contract. Assumes nothing.
+use mathlib.Core.Path.{_∙_, ap}
+use borrow.Author.Needs.{needs}
+use Rattle.rules.specs.declared.Case.{Case}
+use Rattle.rules.specs.Collateral.{collateralAnswer}
+use Rattle.host.specs.Cases.{caseWith}
+use Rattle.host.proofs.CodingLaws.{parts}
+use Rattle.host.proofs.CallLaws.{on-collateral}
+use Rattle.host.proofs.collaterals.collateral_on.Statement.{statement}
+use Rattle.host.proofs.collaterals.collateral_on.Tie as tie
+
+slice-aggregate-decode : tie.Need-slice-aggregate-decode
+slice-aggregate-decode c = search needs
+
+decode-requires : tie.Need-decode-requires
+decode-requires c κs = search needs
+
+array-share-prefix-words : tie.Need-array-share-prefix-words
+array-share-prefix-words c = search needs
+
+slice-aggregate-collateral : tie.Need-slice-aggregate-collateral
+slice-aggregate-collateral c = search parts
+
+collateral-requires : tie.Need-collateral-requires
+collateral-requires c κs = search needs
+
+returns : tie.Need-returns
+returns c =
+    let d = c .before .before .before in
+    let a = d .before .before .before .args in
+    let k : Case = caseWith (a .asked) (a .margin) (a .trading) (a .group) (a .yek) in
+    c .collateral .ensures ∙ ap (λ ws. collateralAnswer ws k) (d .decode .ensures .read) ∙ on-collateral (a .book .now) k
+
+pub collateral-on-spec : {M : Type 1} → statement M
+collateral-on-spec =
+    tie.close
+    (tie.spec
+    slice-aggregate-decode
+    decode-requires
+    array-share-prefix-words
+    slice-aggregate-collateral
+    collateral-requires
+    returns)

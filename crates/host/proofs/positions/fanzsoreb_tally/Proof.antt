@@ -1,0 +1,42 @@
+-- `host::positions::fanzsoreb_tally` meets its contract. Assumes nothing.
+use mathlib.Core.Path.{_∙_, ap}
+use borrow.Author.Needs.{needs}
+use Rattle.rules.specs.Balance.{tallyAnswer}
+use Rattle.host.proofs.CodingLaws.{parts}
+use Rattle.host.proofs.CallLaws.{on-tally}
+use Rattle.host.proofs.positions.fanzsoreb_tally.Statement.{statement}
+use Rattle.host.proofs.positions.fanzsoreb_tally.Tie as tie
+
+slice-aggregate-decode : tie.Need-slice-aggregate-decode
+slice-aggregate-decode c = search needs
+
+decode-requires : tie.Need-decode-requires
+decode-requires c κs = search needs
+
+array-share-prefix-words : tie.Need-array-share-prefix-words
+array-share-prefix-words c = search needs
+
+slice-aggregate-tally : tie.Need-slice-aggregate-tally
+slice-aggregate-tally c = search parts
+
+tally-requires : tie.Need-tally-requires
+tally-requires c κs = search needs
+
+returns : tie.Need-returns
+returns c =
+    let d = c .before .before .before in
+    let s = d .before .before .before in
+    let party = s .args .party in
+    let day = s .args .day in
+    c .tally .ensures ∙ ap (λ ws. tallyAnswer ws party day) (d .decode .ensures .read) ∙ on-tally (s .args .book .now) party day
+
+pub fanzsoreb-tally-spec : {M : Type 1} → statement M
+fanzsoreb-tally-spec =
+    tie.close
+    (tie.spec
+    slice-aggregate-decode
+    decode-requires
+    array-share-prefix-words
+    slice-aggregate-tally
+    tally-requires
+    returns)

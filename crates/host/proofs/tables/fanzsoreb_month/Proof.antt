@@ -1,0 +1,75 @@
+-- `host::tables::fanzsoreb_month` meets its contract. Assumes nothing.
+use mathlib.Core.Path.{_≡_, sym, _∙_}
+use mathlib.Core.Bool.{true}
+use borrow.Author.Needs.{needs}
+use borrow.Author.Tests.{not-true, not-false}
+use lib.ListN.{length}
+use Rattle.host.specs.Coding.{lengthsOk}
+use Rattle.host.proofs.TableLaws.{bad-lengths, many-rows, tables-within, on-tables}
+use Rattle.host.proofs.tables.fanzsoreb_month.Statement.{statement}
+use Rattle.host.proofs.tables.fanzsoreb_month.Tie as tie
+
+-- past the test of the lengths
+module _ (c : tie.Else1) where
+  abbrev start : tie.Start
+  start = c .before .before .before .before .before
+
+  passed : lengthsOk (length (start .args .prices .now)) (length (start .args .imbalance .now)) (start .args .rows) (length (start .args .dm .now)) ≡ true
+  passed = sym (c .before .lengths-ok .ensures) ∙ not-false _ (c .if1 .left)
+
+lengths-ok-requires : tie.Need-lengths-ok-requires
+lengths-ok-requires c κs = search needs
+
+refused-requires : tie.Need-refused-requires
+refused-requires c κs = search needs
+
+returns : tie.Need-returns
+returns c =
+    let a = c .before .before .before .before .before .before .args in
+    c .refused .ensures
+    ∙ bad-lengths (a .prices .now) (a .imbalance .now) (a .dm .now) (a .rows) (a .group) (sym (c .before .before .lengths-ok .ensures) ∙ not-true _ (c .before .if1 .taken))
+
+refused-requires-2 : tie.Need-refused-requires-2
+refused-requires-2 c κs = search needs
+
+returns-2 : tie.Need-returns-2
+returns-2 c =
+    let e = c .before .before in
+    let a = start e .args in
+    c .refused2 .ensures ∙ many-rows (a .prices .now) (a .imbalance .now) (a .dm .now) (a .rows) (a .group) (passed e) (c .before .if2 .taken)
+
+slice-aggregate-step-within : tie.Need-slice-aggregate-step-within
+slice-aggregate-step-within c = search needs
+
+slice-aggregate-step-within-2 : tie.Need-slice-aggregate-step-within-2
+slice-aggregate-step-within-2 c = search needs
+
+slice-aggregate-step-within-3 : tie.Need-slice-aggregate-step-within-3
+slice-aggregate-step-within-3 c = search needs
+
+step-within-requires : tie.Need-step-within-requires
+step-within-requires c κs =
+    let e = c .before .before .before .before in
+    let a = start e .args in
+    tables-within (a .prices .now) (a .imbalance .now) (a .dm .now) (a .rows) (a .group) (passed e) (c .before .before .before .if2 .left)
+
+returns-3 : tie.Need-returns-3
+returns-3 c =
+    let e = c .before .before .before .before .before .before .before .before in
+    let a = start e .args in
+    c .before .before .before .step-within .ensures ∙ on-tables (a .prices .now) (a .imbalance .now) (a .dm .now) (a .rows) (a .group) (passed e)
+
+pub fanzsoreb-month-spec : {M : Type 1} → statement M
+fanzsoreb-month-spec =
+    tie.close
+    (tie.spec
+    lengths-ok-requires
+    refused-requires
+    returns
+    refused-requires-2
+    returns-2
+    slice-aggregate-step-within
+    slice-aggregate-step-within-2
+    slice-aggregate-step-within-3
+    step-within-requires
+    returns-3)

@@ -1,0 +1,108 @@
+// A book in lent bytes: is it a book, open, post, withdraw, the number of entries and one entry.
+ghost use mathlib.Core.Path.{_≡_};
+ghost use lib.ListN.{length};
+ghost use Rattle.rules.specs.Entry.{keyOf};
+ghost use Rattle.rules.specs.Words.{isBook};
+ghost use Rattle.rules.specs.Refusals.{notABook};
+ghost use Rattle.rules.specs.Book.{openCause, openWords, defaultCoefficient, defaultTolerance, postAnswer, postWords, withdrawCause, withdrawWords, countAnswer, noRead, readAnswer};
+ghost use Rattle.host.specs.Bytes.{onWords, withWords, yesNo};
+use crate::coding;
+use book::refusals::NOT_A_BOOK;
+use rules::Counted;
+use rules::EntryRead;
+use rules::Posted;
+
+// 1 if the bytes are a book, else 0.
+#[no_mangle]
+pub extern "C" fn fanzsoreb_is_book(book: &[u8]) -> u32
+    ensures { λ r. ⌜ r ≡ onWords (now (book .entry)) (λ ws. yesNo (isBook ws)) 0 ⌝ }
+{
+    let mut words = [0u32; coding::WORDS];
+    let n = coding::decode(book, &mut words);
+    book::is_book(&words[..n]) as u32
+}
+
+// Opens a book with coefficient R in hundredths and tolerance amount TM in kWh.
+#[no_mangle]
+pub extern "C" fn fanzsoreb_open(book: &mut [u8], coefficient: u32, tolerance: u32) -> u32
+    ensures answer { λ r. ⌜ r ≡ onWords (now (book .entry)) (λ ws. openCause (length ws) coefficient tolerance) notABook ⌝ }
+    ensures bytes { λ r. ⌜ now (book .exit) ≡ withWords (now (book .entry)) (λ ws. openWords ws coefficient tolerance) ⌝ }
+{
+    if book.len() % 4 != 0 {
+        return NOT_A_BOOK;
+    }
+    let mut words = [0u32; coding::WORDS];
+    let n = coding::decode(book, &mut words);
+    let opened = book::open(&mut words[..n], coefficient, tolerance);
+    coding::write_back(opened, &words[..n], book);
+    opened
+}
+
+// Opens a book with R 110 and TM 600,000 (document 004, Article 11).
+#[no_mangle]
+pub extern "C" fn fanzsoreb_open_default(book: &mut [u8]) -> u32
+    ensures answer { λ r. ⌜ r ≡ onWords (now (book .entry)) (λ ws. openCause (length ws) defaultCoefficient defaultTolerance) notABook ⌝ }
+    ensures bytes { λ r. ⌜ now (book .exit) ≡ withWords (now (book .entry)) (λ ws. openWords ws defaultCoefficient defaultTolerance) ⌝ }
+{
+    fanzsoreb_open(book, 110, 600000)
+}
+
+// Appends one standing entry and answers its number, counted from 0.
+#[no_mangle]
+pub extern "C" fn fanzsoreb_post(
+    book: &mut [u8],
+    party: u32,
+    day: u32,
+    entry_type: u32,
+    counterparty: u32,
+    amount: u64,
+) -> Posted
+    ensures answer { λ r. ⌜ r ≡ onWords (now (book .entry)) (λ ws. postAnswer ws (keyOf party day «entry_type» counterparty) amount) (record { answer = notABook; number = 0 }) ⌝ }
+    ensures bytes { λ r. ⌜ now (book .exit) ≡ withWords (now (book .entry)) (λ ws. postWords ws (keyOf party day «entry_type» counterparty) amount) ⌝ }
+{
+    let mut words = [0u32; coding::WORDS];
+    let n = coding::decode(book, &mut words);
+    let posted = book::post(
+        &mut words[..n],
+        party,
+        day,
+        entry_type,
+        counterparty,
+        amount,
+    );
+    coding::write_back(posted.answer, &words[..n], book);
+    posted
+}
+
+// Gives the entry of this number status 1.
+#[no_mangle]
+pub extern "C" fn fanzsoreb_withdraw(book: &mut [u8], number: u32) -> u32
+    ensures answer { λ r. ⌜ r ≡ onWords (now (book .entry)) (λ ws. withdrawCause ws number) notABook ⌝ }
+    ensures bytes { λ r. ⌜ now (book .exit) ≡ withWords (now (book .entry)) (λ ws. withdrawWords ws number) ⌝ }
+{
+    let mut words = [0u32; coding::WORDS];
+    let n = coding::decode(book, &mut words);
+    let withdrawn = book::withdraw(&mut words[..n], number);
+    coding::write_back(withdrawn, &words[..n], book);
+    withdrawn
+}
+
+// The number of entries, of every status.
+#[no_mangle]
+pub extern "C" fn fanzsoreb_count(book: &[u8]) -> Counted
+    ensures { λ r. ⌜ r ≡ onWords (now (book .entry)) countAnswer (record { answer = notABook; count = 0 }) ⌝ }
+{
+    let mut words = [0u32; coding::WORDS];
+    let n = coding::decode(book, &mut words);
+    book::count(&words[..n])
+}
+
+// One entry by its number.
+#[no_mangle]
+pub extern "C" fn fanzsoreb_entry(book: &[u8], number: u32) -> EntryRead
+    ensures { λ r. ⌜ r ≡ onWords (now (book .entry)) (λ ws. readAnswer ws number) (noRead notABook) ⌝ }
+{
+    let mut words = [0u32; coding::WORDS];
+    let n = coding::decode(book, &mut words);
+    book::entry(&words[..n], number)
+}

@@ -1,0 +1,35 @@
+// Control of a day, and a day file read into a book in lent bytes (document 01, 'Control of a day', 'Day file').
+ghost use mathlib.Core.Path.{_≡_};
+ghost use Rattle.rules.specs.Refusals.{notABook};
+ghost use Rattle.rules.specs.Control.{controlAnswer, controlWords};
+ghost use Rattle.rules.specs.DayFile.{fileAnswer, fileWords};
+ghost use Rattle.host.specs.Bytes.{onWords, withWords};
+use crate::coding;
+use rules::Controlled;
+use rules::FileRead;
+
+// Posts the lines of a file: all of them or none.
+#[no_mangle]
+pub extern "C" fn fanzsoreb_read_file(book: &mut [u8], file: &[u8]) -> FileRead
+    ensures answer { λ r. ⌜ r ≡ onWords (now (book .entry)) (λ ws. fileAnswer ws (now (file .entry))) (record { answer = notABook; posted = 0 }) ⌝ }
+    ensures bytes { λ r. ⌜ now (book .exit) ≡ withWords (now (book .entry)) (λ ws. fileWords ws (now (file .entry))) ⌝ }
+{
+    let mut words = [0u32; coding::WORDS];
+    let n = coding::decode(book, &mut words);
+    let read = dayfile::read_file(&mut words[..n], file);
+    coding::write_back(read.answer, &words[..n], book);
+    read
+}
+
+// Cancels the bilateral sales of detected parties and closes the day.
+#[no_mangle]
+pub extern "C" fn fanzsoreb_control(book: &mut [u8], day: u32) -> Controlled
+    ensures answer { λ r. ⌜ r ≡ onWords (now (book .entry)) (λ ws. controlAnswer ws day) (record { answer = notABook; first = 0; second = 0; cancelled = 0 }) ⌝ }
+    ensures bytes { λ r. ⌜ now (book .exit) ≡ withWords (now (book .entry)) (λ ws. controlWords ws day) ⌝ }
+{
+    let mut words = [0u32; coding::WORDS];
+    let n = coding::decode(book, &mut words);
+    let controlled = control::control(&mut words[..n], day);
+    coding::write_back(controlled.answer, &words[..n], book);
+    controlled
+}

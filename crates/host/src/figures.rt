@@ -1,0 +1,29 @@
+// Calls on numbers alone.
+ghost use mathlib.Core.Path.{_≡_};
+ghost use Prim.Native.Nat.{_+_, _*_};
+ghost use Rattle.rules.specs.Ceiling.{ceilingAnswer};
+use rules::CeilingAnswer;
+
+// Major × 10,000 + minor × 100 + patch.
+const VERSION: u32 = 10000;
+
+// The version of the calls.
+#[no_mangle]
+pub extern "C" fn fanzsoreb_version() -> u32
+    ensures { λ r. ⌜ r ≡ 1 * 10000 + 0 * 100 + 0 ⌝ }
+{
+    VERSION
+}
+
+// 12, or whether an offer is recordable (01, 'Sales ceiling').
+#[no_mangle]
+pub extern "C" fn fanzsoreb_ceiling(
+    offer: u32,
+    bilateral: u32,
+    futures: u32,
+    capacity: u32,
+) -> CeilingAnswer
+    ensures { λ r. ⌜ r ≡ ceilingAnswer offer bilateral futures capacity ⌝ }
+{
+    ceiling::ceiling(offer, bilateral, futures, capacity)
+}

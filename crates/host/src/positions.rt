@@ -1,0 +1,47 @@
+// The tally and both balances on a book in lent bytes (document 01, 'The two balances').
+ghost use mathlib.Core.Path.{_≡_};
+ghost use lib.IntN.{pos};
+ghost use Rattle.rules.specs.Refusals.{notABook};
+ghost use Rattle.rules.specs.Balance.{tallyAnswer, balanceAnswer, isDetected, dayAhead, delivery, noTally};
+ghost use Rattle.host.specs.Bytes.{onWords, yesNo};
+use crate::coding;
+use rules::BalanceAnswer;
+use rules::TallyAnswer;
+
+// The sixteen sums of a party's day and B.
+#[no_mangle]
+pub extern "C" fn fanzsoreb_tally(book: &[u8], party: u32, day: u32) -> TallyAnswer
+    ensures { λ r. ⌜ r ≡ onWords (now (book .entry)) (λ ws. tallyAnswer ws party day) (record { answer = notABook; tally = noTally; bought = 0 }) ⌝ }
+{
+    let mut words = [0u32; coding::WORDS];
+    let n = coding::decode(book, &mut words);
+    position::tally(&words[..n], party, day)
+}
+
+// The day-ahead balance, in hundredths of a kWh (document 004, Article 7).
+#[no_mangle]
+pub extern "C" fn fanzsoreb_day_ahead(book: &[u8], party: u32, day: u32) -> BalanceAnswer
+    ensures { λ r. ⌜ r ≡ onWords (now (book .entry)) (λ ws. balanceAnswer dayAhead ws party day) (record { answer = notABook; balance = pos 0 }) ⌝ }
+{
+    let mut words = [0u32; coding::WORDS];
+    let n = coding::decode(book, &mut words);
+    position::day_ahead(&words[..n], party, day)
+}
+
+// The delivery balance, in hundredths of a kWh (document 004, Article 5).
+#[no_mangle]
+pub extern "C" fn fanzsoreb_delivery(book: &[u8], party: u32, day: u32) -> BalanceAnswer
+    ensures { λ r. ⌜ r ≡ onWords (now (book .entry)) (λ ws. balanceAnswer delivery ws party day) (record { answer = notABook; balance = pos 0 }) ⌝ }
+{
+    let mut words = [0u32; coding::WORDS];
+    let n = coding::decode(book, &mut words);
+    position::delivery(&words[..n], party, day)
+}
+
+// 1 if a balance is detected, else 0.
+#[no_mangle]
+pub extern "C" fn fanzsoreb_detected(balance: i64) -> u32
+    ensures { λ r. ⌜ r ≡ yesNo (isDetected balance) ⌝ }
+{
+    position::detected(balance) as u32
+}

@@ -1,0 +1,36 @@
+//! A second calculation of the balance book and the collateral drawn from it.
+//!
+//! It is written from document 01 alone and shares nothing with the engine, so
+//! that the two can be compared. It is meant to be read beside that paper:
+//! a book is decoded into a list of entries, the list is worked on with plain
+//! loops, maps and wide numbers, and what changed is encoded again.
+//!
+//! Every call returns an answer. 0 is done; any other number is the cause of
+//! the refusal, the other figures are then zero and lent words are untouched.
+
+mod answers;
+mod balance;
+mod book;
+pub mod calendar;
+mod ceiling;
+mod collateral;
+mod control;
+mod dayfile;
+mod month;
+
+pub use answers::{
+    BalanceAnswer, Case, CeilingAnswer, Collateral, Controlled, Counted, EntryRead, FileRead,
+    Month, MonthAnswer, Posted, TallyAnswer,
+};
+pub use balance::{day_ahead, delivery, detected, tally};
+pub use book::{
+    count, decode, encode, entry, fault, is_book, open, open_default, post, room, withdraw, Book,
+    Entry, BILATERAL_SALE, CANCELLED, DEFAULT_COEFFICIENT, DEFAULT_TOLERANCE, LAST_DAY, LAST_PARTY,
+    LAST_TYPE, LAST_VOLUME_TYPE, MARK, MOST_COEFFICIENT, MOST_ENTRIES, MOST_MONEY, MOST_TOLERANCE,
+    MOST_VOLUME, STANDING, WITHDRAWN,
+};
+pub use ceiling::ceiling;
+pub use collateral::collateral;
+pub use control::control;
+pub use dayfile::{balance_output, named, read_file, MOST_FILE_BYTES};
+pub use month::month_step;

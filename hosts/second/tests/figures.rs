@@ -1,0 +1,219 @@
+//! Every figure of document 01, 'Figures to hold it to' and the sample of the
+//! day file, against the second calculation.
+
+use second::*;
+
+/// A book of so many places, opened without figures.
+fn default_book(places: usize) -> Vec<u32> {
+    let mut words = vec![0xFFFF_FFFF; 3 + 5 * places];
+    assert_eq!(open_default(&mut words), 0);
+    words
+}
+
+fn posted(words: &mut [u32], party: u32, day: u32, entry_type: u32, other: u32, amount: u64) {
+    let count = count(words).count;
+    let answer = post(words, party, day, entry_type, other, amount);
+    assert_eq!(answer, Posted { answer: 0, number: count });
+}
+
+#[test]
+fn opening_without_figures() {
+    let words = default_book(0);
+    assert_eq!(words, [0x6000_0000, 0x7000_006E, 0x8009_27C0]);
+    assert_eq!(decode(&words).unwrap().coefficient, 110);
+    assert_eq!(decode(&words).unwrap().tolerance, 600_000);
+}
+
+#[test]
+fn no_entries() {
+    let words = default_book(0);
+    assert_eq!(day_ahead(&words, 1, 0), BalanceAnswer { answer: 0, balance: -60_000_000 });
+    assert_eq!(delivery(&words, 999, 36_524), BalanceAnswer { answer: 0, balance: -60_000_000 });
+}
+
+#[test]
+fn sale_of_600_000_is_clear() {
+    for entry_type in 1..=6 {
+        let mut words = default_book(1);
+        let other = if entry_type == 6 { 2 } else { 0 };
+        posted(&mut words, 1, 9_000, entry_type, other, 600_000);
+        let balance = delivery(&words, 1, 9_000).balance;
+        assert_eq!(balance, 0);
+        assert!(!detected(balance));
+        // Intraday sales are not of the day-ahead balance.
+        let ahead = day_ahead(&words, 1, 9_000).balance;
+        let expected = if [2, 5].contains(&entry_type) { -60_000_000 } else { 0 };
+        assert_eq!(ahead, expected);
+    }
+}
+
+#[test]
+fn sale_of_600_001_is_detected() {
+    for entry_type in 1..=6 {
+        let mut words = default_book(1);
+        let other = if entry_type == 6 { 2 } else { 0 };
+        posted(&mut words, 1, 9_000, entry_type, other, 600_001);
+        let balance = delivery(&words, 1, 9_000).balance;
+        assert_eq!(balance, 100);
+        assert!(detected(balance));
+    }
+}
+
+#[test]
+fn tender_300_000_and_import_200_000() {
+    // R 100 and no tolerance: the balance is −100 × A.
+    let mut words = vec![0; 3 + 5 * 2];
+    assert_eq!(open(&mut words, 100, 0), 0);
+    posted(&mut words, 1, 5, 15, 0, 300_000);
+    posted(&mut words, 1, 5, 16, 0, 200_000);
+    assert_eq!(day_ahead(&words, 1, 5).balance, -30_000_000);
+    assert_eq!(delivery(&words, 1, 5).balance, -30_000_000);
+    let tally = tally(&words, 1, 5);
+    assert_eq!(tally.bought + tally.sums[14].max(tally.sums[15]), 300_000);
+}
+
+fn generation(capacity: u64) -> u64 {
+    let words = default_book(0);
+    let case = Case { party: 1, licence: 2, capacity, ..Case::supplier() };
+    let answer = collateral(&words, &case);
+    assert_eq!(answer.answer, 0);
+    assert_eq!(answer.total, answer.margin);
+    answer.margin
+}
+
+#[test]
+fn generation_margins() {
+    assert_eq!(generation(49_999), 1_000_000);
+    assert_eq!(generation(50_000), 1_000_000);
+    assert_eq!(generation(50_001), 1_000_020);
+    assert_eq!(generation(1_000_001), 20_000_000);
+}
+
+#[test]
+fn average_price_halves_up() {
+    let month = month_step(&[100, 101], &[-1, -1], 1, &[0, 0], 0);
+    assert_eq!(month, MonthAnswer { answer: 0, aosmf: 101, aedm: -2 });
+}
+
+#[test]
+fn month_without_hours() {
+    assert_eq!(month_step(&[], &[], 1, &[], 0), MonthAnswer { answer: 0, aosmf: 0, aedm: 0 });
+}
+
+#[test]
+fn imbalance_rounds_up() {
+    let words = default_book(0);
+    let mut case = Case { party: 1, day: 100, rk: 110, used: 1, ..Case::supplier() };
+    case.months[0] = Month { aosmf: 175_000, aedm: -2_001 };
+    let answer = collateral(&words, &case);
+    assert_eq!(answer.imbalance, 385_193);
+    assert_eq!(answer.total, 20_000_000 + 385_193);
+}
+
+#[test]
+fn trading_of_four_days() {
+    let mut words = default_book(4);
+    let g = 1_000;
+    posted(&mut words, 1, g - 1, 17, 0, 900);
+    posted(&mut words, 1, g - 2, 18, 0, 500);
+    posted(&mut words, 1, g - 3, 17, 0, 100);
+    posted(&mut words, 1, g - 4, 17, 0, 5_000);
+    let case = Case { party: 1, day: g, defaults: 1, ..Case::supplier() };
+    let answer = collateral(&words, &case);
+    assert_eq!(answer.trading, 1_050);
+    assert_eq!(answer.total, 20_000_000);
+}
+
+#[test]
+fn yek_shares() {
+    let words = default_book(0);
+    let case = Case { party: 1, yt: 1_000, best: 3, score: 1, ..Case::supplier() };
+    assert_eq!(collateral(&words, &case).yek, 667);
+    for best in [1, 3, 5, 10_000] {
+        let case = Case { best, score: best, ..case };
+        assert_eq!(collateral(&words, &case).yek, 200);
+    }
+}
+
+#[test]
+fn sales_ceiling() {
+    for (n, v) in [(16_666, 0), (0, 16_666), (16_000, 666)] {
+        let yes = CeilingAnswer { answer: 0, recordable: 1 };
+        let no = CeilingAnswer { answer: 0, recordable: 0 };
+        assert_eq!(ceiling(26_000, n, v, 1_000), yes);
+        assert_eq!(ceiling(26_001, n, v, 1_000), no);
+    }
+}
+
+#[test]
+fn calendar() {
+    assert_eq!(second::calendar::date_of(0), (2000, 1, 1));
+    assert_eq!(second::calendar::date_of(59), (2000, 2, 29));
+    assert_eq!(second::calendar::date_of(60), (2000, 3, 1));
+    assert_eq!(second::calendar::date_of(36_524), (2099, 12, 31));
+    // 1,200 months follow one another without a gap up to 36,525.
+    let mut day = 0;
+    let mut months = 0;
+    for year in 2000..=2099 {
+        for month in 1..=12 {
+            assert_eq!(second::calendar::first_day(year, month), day);
+            for of_month in 1..=second::calendar::days_of_month(year, month) {
+                assert_eq!(second::calendar::date_of(day), (year, month, of_month));
+                day += 1;
+            }
+            months += 1;
+        }
+    }
+    assert_eq!(day, 36_525);
+    assert_eq!(months, 1_200);
+}
+
+fn bytes(words: &[u32]) -> Vec<u8> {
+    words.iter().flat_map(|w| w.to_le_bytes()).collect()
+}
+
+const SAMPLE: [u32; 8] = [
+    0x1002_0001,
+    0x2000_2328,
+    0x3000_0206,
+    0x400A_AE60,
+    0x5000_0000,
+    0x3000_000C,
+    0x4007_A120,
+    0x5000_0000,
+];
+
+#[test]
+fn sample_of_the_day_file() {
+    let file = bytes(&SAMPLE);
+    let text = "party day ahead delivery\n1 9000 10000000 10000000\n2 9000 -77000000 -77000000\n";
+    assert_eq!(balance_output(&file), text.as_bytes());
+    assert_eq!(named(&file), [(1, 9_000), (2, 9_000)]);
+
+    let mut words = default_book(3_072);
+    assert_eq!(read_file(&mut words, &file), FileRead { answer: 0, posted: 2 });
+    assert_eq!(
+        entry(&words, 0),
+        EntryRead {
+            answer: 0,
+            party: 1,
+            day: 9_000,
+            entry_type: 6,
+            counterparty: 2,
+            status: 0,
+            amount: 700_000,
+        }
+    );
+    assert_eq!(
+        entry(&words, 1),
+        EntryRead {
+            answer: 0,
+            party: 1,
+            day: 9_000,
+            entry_type: 12,
+            counterparty: 0,
+            status: 0,
+            amount: 500_000,
+        }
+    );
+}
