@@ -1,19 +1,18 @@
 -- The answer to a file, from the closed days in a table and a scan of its items. Assumes nothing.
-use mathlib.Core.Path.{_≡_, refl, sym, _∙_, ap, ap₂}
-use mathlib.Core.Logic.{inl, inr}
-use mathlib.Core.Bool.{Bool, true, false, not, cond, _&&_, _||_}
-use mathlib.Core.List.{List, [], _∷_, _++_, map}
-use Prim.Native.Nat.{ℕ, zero, suc, _+_, _-_, _*_, _%_, _≤_, _<_}
+use mathlib.Core.Path.{_≡_, refl, _∙_, ap, ap₂}
+use mathlib.Core.Bool.{Bool, true, false}
+use mathlib.Core.List.{List, [], _∷_, map}
+use Prim.Native.Nat.{ℕ, zero, suc, _+_, _-_, _%_, _≤_, _<_}
 use native.Mathlib.Omega.{arith}
-use lib.Dec.{eqb, leb, ltb}
-use lib.ListN.{length, getD, replicate, getD-replicate}
+use lib.Dec.{eqb, leb}
+use lib.ListN.{length, getD}
 use borrow.Author.Tests.{leb-true, le-leb, lt-leb}
 use Rattle.numbers.specs.Causes.{unless, orElse, firstOf, ifDone}
 use Rattle.numbers.proofs.TestLaws.{every-holds}
-use Rattle.rules.specs.Entry.{Key, Record, fault, isBilateral}
+use Rattle.rules.specs.Entry.{Record, fault}
 use Rattle.rules.specs.Words.{isBook, entries, countOf, roomIn}
 use Rattle.rules.specs.Book.{isClosed, shutTo}
-use Rattle.rules.specs.DayFile.{Item, line, emptyBlock, itemCause, items, linesOf, isFile, isShaped, wordsOf, mostBytes, fileCause, fileAnswer}
+use Rattle.rules.specs.DayFile.{Item, line, emptyBlock, itemCause, items, linesOf, isFile, isShaped, wordsOf, fileCause, fileAnswer}
 use Rattle.rules.specs.declared.FileRead.{FileRead}
 use Rattle.rules.proofs.WordLaws.{no-fault}
 use Rattle.dayfile.specs.Check.{tableDays, nonePosted, causeBy, firstCause, scanned}

@@ -1,25 +1,24 @@
 -- Laws of the closed days in a table, of the causes of items, and of the lines they hold. Assumes nothing.
 use mathlib.Core.Path.{_≡_, refl, sym, _∙_, ap}
-use mathlib.Core.Logic.{_⊎_, inl, inr, _≢_}
-use mathlib.Core.Bool.{Bool, true, false, not, cond, _&&_, _||_, or-false, or-true, or-assoc}
-use mathlib.Core.List.{List, [], _∷_, _++_, map}
-use Prim.Native.Nat.{ℕ, zero, suc, _+_, _-_, _*_, _≤_, _<_}
+use mathlib.Core.Logic.{inl, inr}
+use mathlib.Core.Bool.{Bool, true, false, cond, _||_, or-false, or-true, or-assoc}
+use mathlib.Core.List.{List, [], _∷_, _++_}
+use Prim.Native.Nat.{ℕ, zero, suc, _+_, _-_, _≤_, _<_}
 use native.Mathlib.Omega.{arith}
-use lib.Dec.{eqb, leb, ltb}
+use lib.Dec.{eqb}
 use lib.ListN.{length, getD, set, length-append}
 use lib.Seq.{getD-set-same, getD-set-other}
-use borrow.Author.Tests.{eq-eqb, ne-eqb, eqb-true, eqb-false, not-true, not-false}
-use Rattle.numbers.specs.Causes.{unless, orElse, firstOf, ifDone}
+use borrow.Author.Tests.{eq-eqb, ne-eqb, eqb-true, eqb-false}
+use Rattle.numbers.specs.Causes.{orElse}
 use Rattle.numbers.proofs.TestLaws.{bool-cases}
-use Rattle.rules.specs.Entry.{Key, Record, key, fault, isBilateral, standing, recordOf, legal}
-use Rattle.rules.specs.Book.{isMarkOf, isClosed, shutTo}
-use Rattle.rules.specs.DayFile.{Item, line, emptyBlock, itemCause, linesOf, headItem}
-use Rattle.rules.proofs.WordLaws.{no-fault}
+use Rattle.rules.specs.Entry.{Record, key, standing, recordOf}
+use Rattle.rules.specs.Book.{isMarkOf}
+use Rattle.rules.specs.DayFile.{Item, line, emptyBlock, linesOf, headItem}
 use Rattle.dayfile.specs.declared.Cursor.{Cursor}
 use Rattle.dayfile.specs.declared.Line.{Line}
 use Rattle.dayfile.specs.Walk.{isMore, headAt, lineAt, lineItem, itemsAt, pastStep, leftItems}
-use Rattle.dayfile.specs.Check.{tableDays, causeBy, firstCause, linesAt, scanned}
-use Rattle.dayfile.proofs.WalkLaws.{items-step, items-end, some}
+use Rattle.dayfile.specs.Check.{causeBy, firstCause, linesAt, scanned}
+use Rattle.dayfile.proofs.WalkLaws.{items-step, some}
 use Rattle.rules.specs.declared.FileRead.{FileRead}
 
 -- one entry's mark in the table

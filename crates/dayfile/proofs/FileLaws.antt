@@ -1,18 +1,18 @@
 -- What reading a file answers and leaves, by its causes in order. Assumes nothing.
-use mathlib.Core.Path.{_≡_, refl, sym, _∙_, ap}
-use mathlib.Core.Bool.{Bool, true, false}
+use mathlib.Core.Path.{_≡_, sym, _∙_, ap}
+use mathlib.Core.Bool.{true, false}
 use mathlib.Core.List.{List, [], _∷_, _++_, map}
-use Prim.Native.Nat.{ℕ, zero, suc, _+_, _*_, _≤_, _<_}
+use Prim.Native.Nat.{ℕ, _+_, _*_, _≤_}
 use native.Mathlib.Omega.{arith}
 use lib.Dec.{leb}
 use lib.ListN.{length, set, length-append}
 use borrow.Author.Tests.{leb-true}
-use Rattle.numbers.specs.Causes.{unless, firstOf, ifDone}
+use Rattle.numbers.specs.Causes.{unless, firstOf}
 use Rattle.numbers.specs.Tests.{all}
 use Rattle.numbers.proofs.TestLaws.{all-append}
 use Rattle.numbers.proofs.CauseLaws.{clear-all, unless-zero, done-else}
-use Rattle.rules.specs.Entry.{Record, legal}
-use Rattle.rules.specs.Words.{word, isBook, entries, countOf, coefficientOf, toleranceOf, roomIn, laid}
+use Rattle.rules.specs.Entry.{legal}
+use Rattle.rules.specs.Words.{word, isBook, entries, countOf, roomIn}
 use Rattle.rules.specs.DayFile.{itemCause, items, linesOf, isFile, fileCause, fileAnswer, fileWords}
 use Rattle.rules.specs.declared.FileRead.{FileRead}
 use Rattle.rules.proofs.WordLaws.{book-facts, room-words}

@@ -5,3 +5,4 @@ pub mod AnswerLaws
 pub mod PostLaws
 pub mod FileLaws
 pub mod NameLaws
+pub mod WriteLaws

@@ -1,22 +1,22 @@
 -- Laws of the lines stored into a book: one after the other, and all of them. Assumes nothing.
-use mathlib.Core.Path.{_≡_, refl, sym, _∙_, ap, ap₂}
-use mathlib.Core.Bool.{Bool, true, false, _&&_, and-true}
+use mathlib.Core.Path.{_≡_, refl, sym, _∙_, ap}
+use mathlib.Core.Bool.{true}
 use mathlib.Core.List.{List, [], _∷_, _++_, map, append-assoc}
-use Prim.Native.Nat.{ℕ, zero, suc, _+_, _-_, _*_, _≤_, _<_}
+use Prim.Native.Nat.{ℕ, zero, suc, _+_, _-_, _*_, _≤_}
 use native.Mathlib.Nat.{add-zero}
 use native.Mathlib.Omega.{arith}
 use lib.ListN.{length, take, drop, set, length-append, length-set, take-append-drop}
 use lib.Seq.{take-at, drop-drop, drop-append-add, length-take-le}
-use borrow.Author.Tests.{eq-eqb, ne-eqb, leb-true}
-use Rattle.numbers.specs.Causes.{unless, orElse, firstOf}
+use borrow.Author.Tests.{eq-eqb}
+use Rattle.numbers.specs.Causes.{firstOf}
 use Rattle.numbers.specs.Tests.{all}
 use Rattle.numbers.proofs.TestLaws.{and-split, and-join, all-append}
-use Rattle.numbers.proofs.CauseLaws.{else-split, clear-all, unless-zero}
-use Rattle.rules.specs.Entry.{Key, Record, key, recordOf, standing, legal, fault}
+use Rattle.numbers.proofs.CauseLaws.{else-split}
+use Rattle.rules.specs.Entry.{Key, Record, recordOf, standing, legal, fault}
 use Rattle.rules.specs.Words.{word, encode, encodeAll, usedWords, laid, isBook, entries, countOf, coefficientOf, toleranceOf, roomIn}
-use Rattle.rules.specs.Book.{storedAt, shutTo}
+use Rattle.rules.specs.Book.{storedAt}
 use Rattle.rules.specs.DayFile.{Item, line, emptyBlock, headItem, itemCause, linesOf}
-use Rattle.rules.proofs.WordLaws.{book-facts, book-laid, book-fits, laid-used, length-used, encode-all-append, room-words}
+use Rattle.rules.proofs.WordLaws.{book-facts, book-laid, laid-used, encode-all-append, room-words}
 use Rattle.rules.proofs.BookLaws.{stored-words, new-legal}
 use Rattle.dayfile.specs.declared.Cursor.{Cursor}
 use Rattle.dayfile.specs.declared.Line.{Line}

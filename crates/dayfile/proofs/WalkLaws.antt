@@ -1,21 +1,20 @@
 -- Laws of a walk of a file's bytes. Assumes nothing.
-use mathlib.Core.Path.{_≡_, refl, sym, _∙_, ap}
+use mathlib.Core.Path.{_≡_, refl}
 use mathlib.Core.Logic.{_⊎_, inl, inr}
-use mathlib.Core.Bool.{Bool, true, false, cond, _&&_}
+use mathlib.Core.Bool.{true, false, _&&_}
 use mathlib.Core.List.{List, [], _∷_, _++_}
-use Prim.Native.Nat.{ℕ, zero, suc, _+_, _-_, _*_, _/_, _%_, _≤_, _<_}
-use native.Mathlib.Nat.{add-zero}
+use Prim.Native.Nat.{ℕ, zero, suc, _+_, _-_, _≤_, _<_}
 use native.Mathlib.Numerals.{add-one, add-two, add-three, add-four}
 use native.Mathlib.Omega.{arith}
-use lib.Dec.{eqb, leb, ltb}
-use lib.ListN.{length, getD, drop, length-drop, drop-of-length-le}
-use lib.Seq.{drop-cons, drop-drop}
-use borrow.Author.Tests.{leb-true, leb-false, ltb-true, ltb-false, lt-ltb, le-ltb, eq-eqb, ne-eqb}
+use lib.Dec.{eqb, ltb}
+use lib.ListN.{length, getD, drop, length-drop}
+use lib.Seq.{drop-cons}
+use borrow.Author.Tests.{leb-true, leb-false, le-leb, ltb-true, ltb-false, lt-ltb, le-ltb, eq-eqb, ne-eqb}
 use Rattle.numbers.proofs.TestLaws.{bool-cases}
-use Rattle.rules.specs.Words.{valueOf}
-use Rattle.rules.specs.DayFile.{Item, line, headItem, linesIn, partyIn, isHead, isLine, isShaped, itemsFrom, wordsOf}
+use Rattle.rules.specs.DayFile.{Item, line, headItem, linesIn, isShaped, itemsFrom, wordsOf}
 use Rattle.dayfile.specs.declared.Cursor.{Cursor}
-use Rattle.dayfile.specs.Walk.{wordAt, isMore, headAt, pastLine, pastStep, lineAt, lineItem, itemsAt, isStepOk, leftItems, leftShaped, stepBytes}
+use Rattle.dayfile.specs.Read.{stepAt, wordIn}
+use Rattle.dayfile.specs.Walk.{wordAt, isMore, headAt, pastStep, lineAt, lineItem, itemsAt, isStepOk, leftItems, leftShaped}
 
 -- the bytes that a whole head or line has
 module _ (bs : List ℕ) (c : Cursor) (more : isMore bs c ≡ true) where
@@ -26,6 +25,11 @@ module _ (bs : List ℕ) (c : Cursor) (more : isMore bs c ≡ true) where
   pub line-whole : (c .left ≡ 0 → ⊥) → c .at + 12 ≤ length bs
   unfolding isMore
   line-whole n = omega (arith, leb-true 12 (length bs - c .at) (rw (ne-eqb (c .left) 0 n) at more))
+
+-- a reader finds each whole word
+pub word-found : (bs : List ℕ) (at : ℕ) → at + 4 ≤ length bs → wordIn (stepAt bs at) ≡ wordAt bs at
+unfolding stepAt
+word-found bs at h = rw (le-leb (at + 4) (length bs) h)
 
 -- the words of bytes, one at a time
 four : (bs : List ℕ) (at : ℕ) → at + 4 ≤ length bs → drop at bs ≡ getD bs at 0 ∷ getD bs (at + 1) 0 ∷ getD bs (at + 2) 0 ∷ getD bs (at + 3) 0 ∷ drop (at + 4) bs
@@ -51,7 +55,7 @@ words-end bs at h = no-word (drop at bs) (rw (length-drop at bs) h)
 pub some : (n : ℕ) → eqb (suc n) 0 ≡ false
 some n = ne-eqb (suc n) 0 (λ z. absurd (omega arith))
 
-below-or-above : (a b : ℕ) → (a < b) ⊎ (b ≤ a)
+pub below-or-above : (a b : ℕ) → (a < b) ⊎ (b ≤ a)
 below-or-above a b = elim (bool-cases (ltb a b)) [ inl e ↦ inl (ltb-true a b e) | inr e ↦ inr (ltb-false a b e) ]
 
 -- one head or line, and what is left after it

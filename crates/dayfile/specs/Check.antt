@@ -1,12 +1,12 @@
 -- The checks of a file's items with the closed days in a table, and the stores of its lines (01, 'Day file').
-use mathlib.Core.Bool.{Bool, true, false, not, cond, _&&_}
+use mathlib.Core.Bool.{Bool, false, not, cond, _&&_}
 use mathlib.Core.List.{List, [], _∷_, map}
 use Prim.Native.Nat.{ℕ, _+_}
 use lib.Dec.{eqb}
 use lib.ListN.{length, getD}
 use Rattle.numbers.specs.Causes.{unless, firstOf, ifDone}
 use Rattle.rules.specs.Refusals.{dayClosed}
-use Rattle.rules.specs.Entry.{Key, fault, isBilateral}
+use Rattle.rules.specs.Entry.{fault, isBilateral}
 use Rattle.rules.specs.Book.{storedAt}
 use Rattle.rules.specs.DayFile.{Item, line, emptyBlock, itemCause, linesOf}
 use Rattle.rules.specs.declared.FileRead.{FileRead}

@@ -4,7 +4,6 @@ use mathlib.Core.List.{List}
 use Prim.Native.Nat.{ℕ}
 use lib.Dec.{eqb, ltb}
 use Rattle.numbers.specs.Tests.{any}
-use Rattle.rules.specs.Entry.{Key}
 use Rattle.rules.specs.DayFile.{Item, line, emptyBlock, items}
 
 -- a line names its party and its counterparty, if that is above 0

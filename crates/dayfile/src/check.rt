@@ -1,14 +1,13 @@
 // Internal: the causes of a file's items, in file order. A caller meets each `requires`.
 ghost use mathlib.Core.Path.{_≡_};
 ghost use mathlib.Core.Bool.{true, false, _||_};
-ghost use mathlib.Core.List.{[], _∷_, map};
+ghost use mathlib.Core.List.{[]};
 ghost use Prim.Native.Nat.{ℕ, _+_, _*_, _<_, _≤_};
 ghost use lib.ListN.{length, getD, drop};
-ghost use Rattle.numbers.specs.Causes.{unless, firstOf};
-ghost use Rattle.rules.specs.Entry.{keyOf, partyOk, dayOk, legal};
+ghost use Rattle.rules.specs.Entry.{keyOf};
 ghost use Rattle.rules.specs.Words.{decode, entryOk, isBook, entries};
 ghost use Rattle.rules.specs.Book.{isMarkOf, isClosed};
-ghost use Rattle.rules.specs.DayFile.{Item, line, emptyBlock, itemCause, items, mostBytes, isFile, fileAnswer};
+ghost use Rattle.rules.specs.DayFile.{line, emptyBlock, itemCause, items, mostBytes, isFile, fileAnswer};
 ghost use Rattle.dayfile.specs.Walk.{isMore, itemsAt};
 ghost use Rattle.dayfile.specs.Check.{tableDays, causeBy, firstCause, linesAt, scanned};
 use crate::Cursor;

@@ -9,7 +9,9 @@ use rules::FileRead;
 pub mod check;
 pub mod names;
 pub mod post;
+pub mod reader;
 pub mod walk;
+pub mod writer;
 
 // A file is refused by its length, kinds, spare or status bits, or ending.
 pub const BAD_FILE: u32 = 2;

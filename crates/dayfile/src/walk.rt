@@ -7,20 +7,19 @@ ghost use Rattle.rules.specs.DayFile.{isHead, isLine, isShaped, wordsOf};
 ghost use Rattle.dayfile.specs.Walk.{wordAt, start, isMore, headAt, pastStep, lineAt, isStepOk};
 use crate::Cursor;
 use crate::Line;
+use crate::reader;
+use crate::reader::Step;
 use book::words::KIND;
 
-fn word_of(a: u8, b: u8, c: u8, d: u8) -> u32
-    ensures { λ r. ⌜ r ≡ a + b * 256 + c * 65536 + d * 16777216 ⌝ }
-{
-    a as u32 + b as u32 * 256 + c as u32 * 65536 + d as u32 * 16777216
-}
-
-// The little-endian word at a byte.
+// The word at a byte, by way of a reader.
 pub fn word_at(file: &[u8], at: usize) -> u32
     requires { ⌜ at + 4 ≤ length (now file) ⌝ }
     ensures { λ r. ⌜ r ≡ wordAt (now (file .entry)) at ⌝ }
 {
-    word_of(file[at], file[at + 1], file[at + 2], file[at + 3])
+    match reader::step_from(file, at) {
+        Step::Word(word, _) => word,
+        Step::End => 0,
+    }
 }
 
 pub fn begin() -> Cursor

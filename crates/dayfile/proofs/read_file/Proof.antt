@@ -1,5 +1,5 @@
 -- `dayfile::read_file` meets its contract. Assumes nothing.
-use mathlib.Core.Path.{_≡_, _∙_}
+use mathlib.Core.Path.{_∙_}
 use native.Mathlib.Omega.{arith}
 use Rattle.book.proofs.BookCode.{book-long}
 use Rattle.book.proofs.Ladder.{passed, failed}

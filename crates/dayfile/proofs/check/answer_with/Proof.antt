@@ -1,5 +1,5 @@
 -- `dayfile::check::answer_with` meets its contract. Assumes nothing.
-use mathlib.Core.Path.{_≡_, _∙_}
+use mathlib.Core.Path.{_∙_}
 use Rattle.rules.specs.Words.{entries}
 use Rattle.book.proofs.BookCode.{book-long}
 use Rattle.dayfile.proofs.AnswerLaws.{TableOf, file-bytes, answer-refused, answer-full, answer-done}

@@ -5,15 +5,15 @@ use Rattle.numbers.specs.Tests.{any}
 use Rattle.rules.specs.Words.{decode, countOf}
 use Rattle.rules.specs.Book.{isMarkOf}
 use Rattle.dayfile.proofs.CheckLaws.{table-step}
-use mathlib.Core.Path.{_≡_, sym, _∙_, ap}
-use mathlib.Core.Bool.{false, _||_, or-assoc}
+use mathlib.Core.Path.{_≡_, sym, _∙_}
+use mathlib.Core.Bool.{false, _||_}
 use Prim.Native.Nat.{ℕ, _≤_, _<_, _+_, _*_, _-_, zero-le}
 use native.Mathlib.Nat.{sub-zero}
 use native.Mathlib.Omega.{arith}
 use lib.ListN.{length, getD, drop}
 use Rattle.rules.specs.Words.{entries, readEntries}
 use Rattle.rules.specs.Book.{isClosed}
-use Rattle.book.proofs.BookCode.{book-long, book-within, book-entry, closed-from}
+use Rattle.book.proofs.BookCode.{book-long, book-entry, closed-from}
 use Rattle.dayfile.specs.Check.{tableDays}
 use borrow.Author.Needs.{needs}
 use Rattle.dayfile.proofs.check.close_days.Statement.{statement}

@@ -1,5 +1,5 @@
 -- `dayfile::check::line_cause` meets its contract. Assumes nothing.
-use mathlib.Core.Path.{_≡_, sym, _∙_}
+use mathlib.Core.Path.{sym, _∙_}
 use native.Mathlib.Omega.{arith}
 use Rattle.rules.proofs.WordLaws.{no-fault}
 use Rattle.book.proofs.Ladder.{passed, failed}

@@ -1,6 +1,5 @@
 -- `dayfile::check::lines_at` meets its contract. Assumes nothing.
 use borrow.Author.Tests.{eq-eqb, ne-eqb}
-use borrow.Author.Needs.{needs}
 use Rattle.dayfile.proofs.check.lines_at.Statement.{statement}
 use Rattle.dayfile.proofs.check.lines_at.Tie as tie
 

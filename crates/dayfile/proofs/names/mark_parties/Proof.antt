@@ -5,7 +5,7 @@ use Prim.Native.Nat.{ℕ, _≤_, _<_, _-_, zero-le}
 use native.Mathlib.Omega.{arith}
 use lib.ListN.{length, getD}
 use Rattle.numbers.specs.Tests.{any}
-use Rattle.rules.specs.DayFile.{items, Item}
+use Rattle.rules.specs.DayFile.{items}
 use Rattle.dayfile.specs.Walk.{itemsAt, leftItems, pastStep}
 use Rattle.dayfile.specs.Names.{itemHas, namesParty}
 use Rattle.dayfile.proofs.WalkLaws.{items-end, past-within}

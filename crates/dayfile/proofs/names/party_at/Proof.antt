@@ -1,9 +1,9 @@
 -- `dayfile::names::party_at` meets its contract. Assumes nothing.
 use Rattle.dayfile.proofs.NameLaws.{both-marked}
-use mathlib.Core.Bool.{true, false, or-false}
+use mathlib.Core.Bool.{false, or-false}
 use mathlib.Core.List.{[]}
 use lib.Dec.{eqb}
-use lib.ListN.{getD, set, length-set}
+use lib.ListN.{getD}
 use Rattle.rules.specs.DayFile.{emptyBlock}
 use Rattle.dayfile.specs.Walk.{lineItem}
 use Rattle.dayfile.specs.Names.{itemHas}

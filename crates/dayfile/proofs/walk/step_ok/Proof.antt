@@ -2,7 +2,6 @@
 use borrow.Author.Tests.{eq-eqb, ne-eqb}
 use Rattle.dayfile.specs.Walk.{isStepOk}
 use Rattle.dayfile.proofs.WalkLaws.{head-whole, line-whole}
-use borrow.Author.Needs.{needs}
 use Rattle.dayfile.proofs.walk.step_ok.Statement.{statement}
 use Rattle.dayfile.proofs.walk.step_ok.Tie as tie
 

@@ -1,47 +1,29 @@
 -- `dayfile::walk::word_at` meets its contract. Assumes nothing.
-use Rattle.dayfile.specs.Walk.{wordAt}
+use mathlib.Core.Path.{sym, ap, _∙_}
+use Rattle.dayfile.specs.Read.{wordIn}
+use Rattle.dayfile.proofs.WalkLaws.{word-found}
 use borrow.Author.Needs.{needs}
 use Rattle.dayfile.proofs.walk.word_at.Statement.{statement}
 use Rattle.dayfile.proofs.walk.word_at.Tie as tie
 
-shared-slice-read-word-of : tie.Need-shared-slice-read-word-of
-shared-slice-read-word-of c = search needs
+step-from-requires : tie.Need-step-from-requires
+step-from-requires c κs = search needs
 
-add-word-of : tie.Need-add-word-of
-add-word-of c = search needs
+enum-known-word : tie.Need-enum-known-word
+enum-known-word c = search needs
 
-shared-slice-read-word-of-2 : tie.Need-shared-slice-read-word-of-2
-shared-slice-read-word-of-2 c = search needs
-
-add-word-of-2 : tie.Need-add-word-of-2
-add-word-of-2 c = search needs
-
-shared-slice-read-word-of-3 : tie.Need-shared-slice-read-word-of-3
-shared-slice-read-word-of-3 c = search needs
-
-add-word-of-3 : tie.Need-add-word-of-3
-add-word-of-3 c = search needs
-
-shared-slice-read-word-of-4 : tie.Need-shared-slice-read-word-of-4
-shared-slice-read-word-of-4 c = search needs
-
-word-of-requires : tie.Need-word-of-requires
-word-of-requires c κs = search needs
+enum-told : tie.Need-enum-told
+enum-told c = search needs
 
 returns : tie.Need-returns
-unfolding wordAt
-returns c = c .word-of .ensures
+returns c =
+    let f = c .before .before .before in
+    ap wordIn (sym (c .before .word .given .1) ∙ f .step-from .ensures) ∙ word-found _ _ (f .before .before .pre)
+
+returns-2 : tie.Need-returns-2
+returns-2 c =
+    let f = c .before .before in
+    ap wordIn (sym (c .enum-told .given .1) ∙ f .step-from .ensures) ∙ word-found _ _ (f .before .before .pre)
 
 pub word-at-spec : {M : Type 1} → statement M
-word-at-spec =
-    tie.close
-    (tie.spec
-    shared-slice-read-word-of
-    add-word-of
-    shared-slice-read-word-of-2
-    add-word-of-2
-    shared-slice-read-word-of-3
-    add-word-of-3
-    shared-slice-read-word-of-4
-    word-of-requires
-    returns)
+word-at-spec = tie.close (tie.spec step-from-requires enum-known-word enum-told returns returns-2)
