@@ -42,17 +42,18 @@ returns c =
     let s = p .before .before .before .before .before .before .before in
     let bs = s .args .book .now in
     let k : Key = keyOf (s .args .party) (s .args .day) (s .args .entry-type) (s .args .counterparty) in
-    let amount = s .args .amount in
-    ( p .post .ensures .0 ∙ ap (λ ws. postAnswer ws k amount) (d .ensures .read) ∙ on-post bs k amount
-    , c .before .before .write-back .ensures
-    ∙ written-bytes (postCall bs k amount) (d .last .1 .0) (p .post .last .0) (d .result) _ (record {
-      bytes = λ i. p .before .before .before .before .before .before .slice-known .given i .fits;
-      read = d .ensures;
-      array = d .kept .1 .0;
-      kept = p .post .kept .0;
-      left = p .post .ensures .1;
-      answered = ap (λ r. r .answer) (p .post .ensures .0);
-    }))
+    let amount = s .args .amount in (
+      p .post .ensures .0 ∙ ap (λ ws. postAnswer ws k amount) (d .ensures .read) ∙ on-post bs k amount,
+      c .before .before .write-back .ensures
+          ∙ written-bytes (postCall bs k amount) (d .last .1 .0) (p .post .last .0) (d .result) _ (record {
+            bytes = λ i. p .before .before .before .before .before .before .slice-known .given i .fits;
+            read = d .ensures;
+            array = d .kept .1 .0;
+            kept = p .post .kept .0;
+            left = p .post .ensures .1;
+            answered = ap (λ r. r .answer) (p .post .ensures .0);
+          }),
+    )
 
 pub fanzsoreb-post-spec : {M : Type 1} → statement M
 fanzsoreb-post-spec =

@@ -40,17 +40,18 @@ returns c =
     let d = p .before .before .before .decode in
     let s = p .before .before .before .before .before .before .before in
     let bs = s .args .book .now in
-    let number = s .args .number in
-    ( p .withdraw .ensures .0 ∙ ap (λ ws. withdrawCause ws number) (d .ensures .read) ∙ on-withdraw bs number
-    , c .before .before .write-back .ensures
-    ∙ written-bytes (withdrawCall bs number) (d .last .1 .0) (p .withdraw .last .0) (d .result) _ (record {
-      bytes = λ i. p .before .before .before .before .before .before .slice-known .given i .fits;
-      read = d .ensures;
-      array = d .kept .1 .0;
-      kept = p .withdraw .kept .0;
-      left = p .withdraw .ensures .1;
-      answered = p .withdraw .ensures .0;
-    }))
+    let number = s .args .number in (
+      p .withdraw .ensures .0 ∙ ap (λ ws. withdrawCause ws number) (d .ensures .read) ∙ on-withdraw bs number,
+      c .before .before .write-back .ensures
+          ∙ written-bytes (withdrawCall bs number) (d .last .1 .0) (p .withdraw .last .0) (d .result) _ (record {
+            bytes = λ i. p .before .before .before .before .before .before .slice-known .given i .fits;
+            read = d .ensures;
+            array = d .kept .1 .0;
+            kept = p .withdraw .kept .0;
+            left = p .withdraw .ensures .1;
+            answered = p .withdraw .ensures .0;
+          }),
+    )
 
 pub fanzsoreb-withdraw-spec : {M : Type 1} → statement M
 fanzsoreb-withdraw-spec =

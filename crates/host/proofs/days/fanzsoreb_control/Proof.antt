@@ -40,17 +40,18 @@ returns c =
     let d = p .before .before .before .decode in
     let s = p .before .before .before .before .before .before .before in
     let bs = s .args .book .now in
-    let day = s .args .day in
-    ( p .control .ensures .0 ∙ ap (λ ws. controlAnswer ws day) (d .ensures .read) ∙ on-control bs day
-    , c .before .before .write-back .ensures
-    ∙ written-bytes (controlCall bs day) (d .last .1 .0) (p .control .last .0) (d .result) _ (record {
-      bytes = λ i. p .before .before .before .before .before .before .slice-known .given i .fits;
-      read = d .ensures;
-      array = d .kept .1 .0;
-      kept = p .control .kept .0;
-      left = p .control .ensures .1;
-      answered = ap (λ r. r .answer) (p .control .ensures .0);
-    }))
+    let day = s .args .day in (
+      p .control .ensures .0 ∙ ap (λ ws. controlAnswer ws day) (d .ensures .read) ∙ on-control bs day,
+      c .before .before .write-back .ensures
+          ∙ written-bytes (controlCall bs day) (d .last .1 .0) (p .control .last .0) (d .result) _ (record {
+            bytes = λ i. p .before .before .before .before .before .before .slice-known .given i .fits;
+            read = d .ensures;
+            array = d .kept .1 .0;
+            kept = p .control .kept .0;
+            left = p .control .ensures .1;
+            answered = ap (λ r. r .answer) (p .control .ensures .0);
+          }),
+    )
 
 pub fanzsoreb-control-spec : {M : Type 1} → statement M
 fanzsoreb-control-spec =

@@ -40,17 +40,18 @@ returns c =
     let d = p .before .before .before .decode in
     let s = p .before .before .before .before .before .before .before .before in
     let bs = s .args .book .now in
-    let file = s .args .file .now in
-    ( p .read-file .ensures .0 ∙ ap (λ ws. fileAnswer ws file) (d .ensures .read) ∙ on-file bs file
-    , c .before .before .write-back .ensures
-    ∙ written-bytes (fileCall bs file) (d .last .1 .0) (p .read-file .last .0) (d .result) _ (record {
-      bytes = λ i. p .before .before .before .before .before .before .before .slice-known .given i .fits;
-      read = d .ensures;
-      array = d .kept .1 .0;
-      kept = p .read-file .kept .0;
-      left = p .read-file .ensures .1;
-      answered = ap (λ r. r .answer) (p .read-file .ensures .0);
-    }))
+    let file = s .args .file .now in (
+      p .read-file .ensures .0 ∙ ap (λ ws. fileAnswer ws file) (d .ensures .read) ∙ on-file bs file,
+      c .before .before .write-back .ensures
+          ∙ written-bytes (fileCall bs file) (d .last .1 .0) (p .read-file .last .0) (d .result) _ (record {
+            bytes = λ i. p .before .before .before .before .before .before .before .slice-known .given i .fits;
+            read = d .ensures;
+            array = d .kept .1 .0;
+            kept = p .read-file .kept .0;
+            left = p .read-file .ensures .1;
+            answered = ap (λ r. r .answer) (p .read-file .ensures .0);
+          }),
+    )
 
 pub fanzsoreb-read-file-spec : {M : Type 1} → statement M
 fanzsoreb-read-file-spec =
