@@ -2,10 +2,12 @@
 PREFIX ?= /usr/local
 DESTDIR ?=
 VERSION = 1.0.0
+# random comparisons a call in `make test`
+ROUNDS ?= 20000
 
 SOURCES := $(shell find crates -name '*.rt' -o -name '*.antt') crates.txt
 
-all: build/libfanzsoreb.a build/fanzsoreb.pc
+all: build/libfanzsoreb.a
 
 # `rt staticlib` proves every crate that the library rests on before it writes the archive
 build/libfanzsoreb.a: $(SOURCES)
@@ -13,20 +15,30 @@ build/libfanzsoreb.a: $(SOURCES)
 	rt staticlib host
 	cp target/staticlib/libhost.a $@
 
-build/fanzsoreb.pc: Makefile
-	mkdir -p build
-	printf 'prefix=%s\nlibdir=$${prefix}/lib\nincludedir=$${prefix}/include\n\nName: fanzsoreb\nDescription: market balance engine\nVersion: %s\nLibs: -L$${libdir} -lfanzsoreb\nCflags: -I$${includedir}\n' '$(PREFIX)' '$(VERSION)' > $@
+define PKGCONFIG
+prefix=$(PREFIX)
+libdir=$${prefix}/lib
+includedir=$${prefix}/include
+
+Name: fanzsoreb
+Description: market balance engine
+Version: $(VERSION)
+Libs: -L$${libdir} -lfanzsoreb
+Cflags: -I$${includedir}
+endef
+export PKGCONFIG
 
 install: all
 	install -d $(DESTDIR)$(PREFIX)/lib/pkgconfig $(DESTDIR)$(PREFIX)/include
 	install -m 644 build/libfanzsoreb.a $(DESTDIR)$(PREFIX)/lib/
-	install -m 644 build/fanzsoreb.pc $(DESTDIR)$(PREFIX)/lib/pkgconfig/
 	install -m 644 include/fanzsoreb.h $(DESTDIR)$(PREFIX)/include/
+	echo "$$PKGCONFIG" > $(DESTDIR)$(PREFIX)/lib/pkgconfig/fanzsoreb.pc
 
-# the examples and a random comparison, on a copy installed under build/
+# the second calculation's own tests; the examples, worked figures and a random comparison on a copy installed under build/
 test: all
+	cd hosts && cargo test --offline --quiet
 	$(MAKE) install PREFIX=$(CURDIR)/build/installed DESTDIR=
-	hosts/accept $(CURDIR)/build/installed
+	hosts/accept $(CURDIR)/build/installed $(ROUNDS)
 
 clean:
 	rm -rf build

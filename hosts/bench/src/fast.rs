@@ -1,6 +1,8 @@
 // The calls again as plain idiomatic Rust of the same algorithm class: bounds checks on, no unsafe, nothing tuned.
 // A book comes as bytes and is decoded into words first, as the engine does.
 
+use std::collections::HashSet;
+
 pub const FULL: usize = 15363;
 const KIND: u32 = 1 << 28;
 
@@ -128,6 +130,7 @@ fn post_words(w: &mut [u32], party: u32, day: u32, kind: u32, counterparty: u32,
     (0, n)
 }
 
+#[inline(never)]
 pub fn post(book: &mut [u8], party: u32, day: u32, kind: u32, counterparty: u32, amount: u64) -> (u32, u32) {
     let mut a = [0u32; FULL];
     let Some(n) = decode(book, &mut a) else { return (1, 0) };
@@ -160,6 +163,7 @@ fn withdraw_words(w: &mut [u32], number: u32) -> u32 {
     0
 }
 
+#[inline(never)]
 pub fn withdraw(book: &mut [u8], number: u32) -> u32 {
     let mut a = [0u32; FULL];
     let Some(n) = decode(book, &mut a) else { return 1 };
@@ -170,11 +174,48 @@ pub fn withdraw(book: &mut [u8], number: u32) -> u32 {
     r
 }
 
+#[inline(never)]
 pub fn check(book: &[u8]) -> u32 {
     let mut a = [0u32; FULL];
     match decode(book, &mut a) {
         Some(n) => is_book(&a[..n]) as u32,
         None => 0,
+    }
+}
+
+#[inline(never)]
+pub fn open(book: &mut [u8], r: u32, tm: u32) -> u32 {
+    let mut a = [0u32; FULL];
+    let Some(n) = decode(book, &mut a) else { return 1 };
+    if n < 3 {
+        return 11;
+    }
+    if r > 1000 || tm > 200_000_000 {
+        return 12;
+    }
+    a[..3].copy_from_slice(&[6 * KIND, 7 * KIND + r, 8 * KIND + tm]);
+    encode(&a[..n], book);
+    0
+}
+
+#[inline(never)]
+pub fn count(book: &[u8]) -> (u32, u32) {
+    let mut a = [0u32; FULL];
+    match decode(book, &mut a) {
+        Some(n) if is_book(&a[..n]) => (0, a[0] % KIND),
+        _ => (1, 0),
+    }
+}
+
+#[inline(never)]
+pub fn one_entry(book: &[u8], number: u32) -> (u32, u32, u32, u32, u32, u32, u64) {
+    let mut a = [0u32; FULL];
+    match decode(book, &mut a) {
+        Some(n) if is_book(&a[..n]) => match entries(&a[..n]).nth(number as usize) {
+            Some(e) => (0, e.party, e.day, e.kind, e.counterparty, e.status, e.amount),
+            None => (10, 0, 0, 0, 0, 0, 0),
+        },
+        _ => (1, 0, 0, 0, 0, 0, 0),
     }
 }
 
@@ -217,6 +258,7 @@ fn asked(w: &[u32], party: u32, day: u32) -> u32 {
     }
 }
 
+#[inline(never)]
 pub fn balance(book: &[u8], party: u32, day: u32, ahead: bool) -> (u32, i64) {
     let mut a = [0u32; FULL];
     let Some(n) = decode(book, &mut a) else { return (1, 0) };
@@ -230,6 +272,7 @@ pub fn balance(book: &[u8], party: u32, day: u32, ahead: bool) -> (u32, i64) {
     }
 }
 
+#[inline(never)]
 pub fn tally(book: &[u8], party: u32, day: u32) -> (u32, [u64; 16], u64) {
     let mut a = [0u32; FULL];
     let Some(n) = decode(book, &mut a) else { return (1, [0; 16], 0) };
@@ -243,6 +286,7 @@ pub fn tally(book: &[u8], party: u32, day: u32) -> (u32, [u64; 16], u64) {
 }
 
 // A plain supplier's collateral: margin 20,000,000 and the trading item.
+#[inline(never)]
 pub fn supplier_total(book: &[u8], party: u32, day: u32) -> (u32, u64) {
     let mut a = [0u32; FULL];
     let Some(n) = decode(book, &mut a) else { return (1, 0) };
@@ -332,12 +376,18 @@ fn cancel(w: &mut [u32], day: u32, who: &[bool]) -> u32 {
     cancelled
 }
 
-fn repeated_buyer(w: &[u32], day: u32, buyer: u32, months: &Months) -> bool {
-    entries(w).filter(|e| e.status == 2 && e.day == day && e.counterparty == buyer).any(|e| {
-        entries(w).any(|o| {
-            o.status == 2 && o.party == e.party && o.counterparty == buyer && o.day != day && months.of(o.day) == months.of(day)
-        })
-    })
+// The buyers of pairs with cancelled entries of the day and of another day of its billing period, in two passes.
+fn repeated_buyers(w: &[u32], day: u32, months: &Months) -> Vec<bool> {
+    let mut buyers = vec![false; 1000];
+    let cancelled = || entries(w).filter(|e| e.status == 2);
+    let others: HashSet<(u32, u32)> = cancelled()
+        .filter(|o| o.day != day && months.of(o.day) == months.of(day))
+        .map(|o| (o.party, o.counterparty))
+        .collect();
+    for e in cancelled().filter(|e| e.day == day && others.contains(&(e.party, e.counterparty))) {
+        buyers[e.counterparty as usize] = true;
+    }
+    buyers
 }
 
 fn control_words(w: &mut [u32], day: u32, months: &Months) -> (u32, u32, u32, u32) {
@@ -355,16 +405,15 @@ fn control_words(w: &mut [u32], day: u32, months: &Months) -> (u32, u32, u32, u3
     }
     let first = detected(w, day);
     let mut cancelled = cancel(w, day, &first);
-    let mut second = detected(w, day);
-    for p in 1..1000 {
-        second[p] = second[p] && repeated_buyer(w, day, p as u32, months);
-    }
+    let repeated = repeated_buyers(w, day, months);
+    let second: Vec<bool> = detected(w, day).iter().zip(&repeated).map(|(&d, &r)| d && r).collect();
     cancelled += cancel(w, day, &second);
     append(w, 0, day, 21, 0);
     let count = |f: &[bool]| f.iter().filter(|&&x| x).count() as u32;
     (0, count(&first), count(&second), cancelled)
 }
 
+#[inline(never)]
 pub fn control(book: &mut [u8], day: u32, months: &Months) -> (u32, u32, u32, u32) {
     let mut a = [0u32; FULL];
     let Some(n) = decode(book, &mut a) else { return (1, 0, 0, 0) };
@@ -438,6 +487,7 @@ fn read_words(w: &mut [u32], file: &[u8]) -> (u32, u32) {
     (0, posted)
 }
 
+#[inline(never)]
 pub fn read_file(book: &mut [u8], file: &[u8]) -> (u32, u32) {
     let mut a = [0u32; FULL];
     let Some(n) = decode(book, &mut a) else { return (1, 0) };
@@ -448,6 +498,7 @@ pub fn read_file(book: &mut [u8], file: &[u8]) -> (u32, u32) {
     r
 }
 
+#[inline(never)]
 pub fn month(prices: &[u8], imbalance: &[u8], rows: u32, dm: &[u8], group: u32) -> (u32, u64, i64) {
     if prices.len() % 4 != 0 || imbalance.len() % 4 != 0 || dm.len() % 4 != 0 {
         return (11, 0, 0);
@@ -475,6 +526,7 @@ pub fn month(prices: &[u8], imbalance: &[u8], rows: u32, dm: &[u8], group: u32) 
     (0, if weights == 0 { 0 } else { (2 * weighted + weights) / (2 * weights) }, aedm)
 }
 
+#[inline(never)]
 pub fn ceiling(o: u32, n: u32, v: u32, g: u32) -> (u32, u32) {
     if [o, n, v, g].iter().any(|&x| x > 1_000_000_000) {
         return (12, 0);

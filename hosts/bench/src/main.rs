@@ -10,6 +10,9 @@ use std::time::Instant;
 struct Two(u32, u32);
 #[repr(C)]
 #[derive(Clone, Copy)]
+struct Entry(u32, u32, u32, u32, u32, u32, u64);
+#[repr(C)]
+#[derive(Clone, Copy)]
 struct Balance(u32, i64);
 #[repr(C)]
 #[derive(Clone, Copy)]
@@ -32,6 +35,9 @@ struct Collateral(u32, u64, u64, u64, u64, u64, u64);
 
 extern "C" {
     fn fanzsoreb_is_book(b: *const u8, n: usize) -> u32;
+    fn fanzsoreb_open(b: *mut u8, n: usize, coefficient: u32, tolerance: u32) -> u32;
+    fn fanzsoreb_count(b: *const u8, n: usize) -> Two;
+    fn fanzsoreb_entry(b: *const u8, n: usize, number: u32) -> Entry;
     fn fanzsoreb_post(b: *mut u8, n: usize, party: u32, day: u32, kind: u32, counterparty: u32, amount: u64) -> Two;
     fn fanzsoreb_withdraw(b: *mut u8, n: usize, number: u32) -> u32;
     fn fanzsoreb_tally(b: *const u8, n: usize, party: u32, day: u32) -> Tally;
@@ -86,13 +92,16 @@ fn book(n: usize) -> Vec<u8> {
     for i in 0..n {
         let party = 1 + d.next(999) as u32;
         let money = d.next(8) == 0;
-        let kind = if money { 17 + d.next(4) as u32 } else { 1 + d.next(16) as u32 };
+        // what a control of the day before cancelled
+        let earlier = !money && d.next(16) == 0;
+        let kind = if money { 17 + d.next(4) as u32 } else if earlier { 6 } else { 1 + d.next(16) as u32 };
         let other = if kind == 6 { 1 + (party - 1 + 1 + d.next(998) as u32) % 999 } else { 0 };
-        let day = if money { DAY - 1 - d.next(30) as u32 } else { DAY };
+        let day = if money { DAY - 1 - d.next(30) as u32 } else { DAY - earlier as u32 };
+        let status = 2 * earlier as u32;
         let at = 3 + 5 * i;
         words[at] = 0x10000000 + party;
         words[at + 1] = 0x20000000 + day;
-        words[at + 2] = 0x30000000 + kind + other * 256;
+        words[at + 2] = 0x30000000 + kind + other * 256 + (status << 24);
         words[at + 3] = 0x40000000 + d.next(900_000) as u32;
         words[at + 4] = 0x50000000;
     }
@@ -113,47 +122,77 @@ fn file(n: usize) -> Vec<u8> {
     words.iter().flat_map(|w| w.to_le_bytes()).collect()
 }
 
-fn row(name: &str, size: usize, engine: f64, rust: f64) {
-    println!("| {} | {} | {:.2} | {:.2} | {:.2} |", name, size, engine / 1000.0, rust / 1000.0, engine / rust);
+struct Row {
+    name: &'static str,
+    size: usize,
+    engine: f64,
+    rust: f64,
+}
+
+fn ratios(rows: &[Row]) {
+    println!("| Call | Entries | Engine, µs | Rust, µs | Ratio |\n|---|---|---|---|---|");
+    for r in rows {
+        println!("| {} | {} | {:.2} | {:.2} | {:.2} |", r.name, r.size, r.engine / 1000.0, r.rust / 1000.0, r.engine / r.rust);
+    }
+}
+
+// the engine's time at each size over its time at the smallest one above 0
+fn growth(rows: &[Row]) {
+    println!("\n| Call | Entries: time over that of the first |\n|---|---|");
+    let mut names: Vec<&str> = rows.iter().map(|r| r.name).collect();
+    names.dedup();
+    names.sort();
+    names.dedup();
+    for name in names {
+        let of: Vec<&Row> = rows.iter().filter(|r| r.name == name && r.size > 0).collect();
+        if of.len() > 1 {
+            let cells: Vec<String> = of.iter().map(|r| format!("{}: {:.2}", r.size, r.engine / of[0].engine)).collect();
+            println!("| {} | {} |", name, cells.join(", "));
+        }
+    }
 }
 
 // one call at one size: the engine and Rust on the same inputs, with equal results
 macro_rules! compare {
-    ($name:expr, $size:expr, $set:expr, $engine:expr, $rust:expr) => {{
-        let (e, a) = shortest($set, $engine);
-        let (r, b) = shortest($set, $rust);
+    ($rows:expr, $name:expr, $size:expr, $set:expr, $engine:expr, $rust:expr) => {{
+        let (engine, a) = shortest($set, $engine);
+        let (rust, b) = shortest($set, $rust);
         assert!(a == b, "{} differs at {}", $name, $size);
-        row($name, $size, e, r);
+        $rows.push(Row { name: $name, size: $size, engine, rust });
     }};
 }
 
 fn main() {
-    println!("| Call | Entries | Engine, µs | Rust, µs | Ratio |");
-    println!("|---|---|---|---|---|");
+    let mut table = Vec::new();
     let months = fast::Months::new();
     for size in [0usize, 768, 1536, 3072] {
         let full = book(size);
         let free = book(size.min(3071));
         let read = || ();
-        compare!("is it a book", size, read, |_| unsafe { fanzsoreb_is_book(full.as_ptr(), full.len()) }, |_| fast::check(&full));
-        compare!("post", size.min(3071), || free.clone(), |b: &mut Vec<u8>| { let r = unsafe { fanzsoreb_post(b.as_mut_ptr(), b.len(), 7, DAY, 6, 8, 5) }; (r.0, r.1) }, |b: &mut Vec<u8>| fast::post(b, 7, DAY, 6, 8, 5));
-        compare!("withdraw", size, || full.clone(), |b: &mut Vec<u8>| unsafe { fanzsoreb_withdraw(b.as_mut_ptr(), b.len(), (size / 2) as u32) }, |b: &mut Vec<u8>| fast::withdraw(b, (size / 2) as u32));
-        compare!("tally", size, read, |_| { let t = unsafe { fanzsoreb_tally(full.as_ptr(), full.len(), 7, DAY) }; (t.0, t.1 .1, t.2) }, |_| fast::tally(&full, 7, DAY));
-        compare!("day-ahead balance", size, read, |_| { let b = unsafe { fanzsoreb_day_ahead(full.as_ptr(), full.len(), 7, DAY) }; (b.0, b.1) }, |_| fast::balance(&full, 7, DAY, true));
-        compare!("delivery balance", size, read, |_| { let b = unsafe { fanzsoreb_delivery(full.as_ptr(), full.len(), 7, DAY) }; (b.0, b.1) }, |_| fast::balance(&full, 7, DAY, false));
-        compare!("collateral", size, read, |_| { let c = unsafe { fanzsoreb_collateral(full.as_ptr(), full.len(), 7, DAY, 0, 0, 0, 0, 0, 1, 0, 0, 0, 0, 0, 0, 0, 0, 0, 0, 0, 1) }; (c.0, c.6) }, |_| fast::supplier_total(&full, 7, DAY));
-        compare!("control", size.min(3071), || free.clone(), |b: &mut Vec<u8>| { let r = unsafe { fanzsoreb_control(b.as_mut_ptr(), b.len(), DAY) }; (r.0, r.1, r.2, r.3) }, |b: &mut Vec<u8>| fast::control(b, DAY, &months));
+        compare!(table, "is it a book", size, read, |_| unsafe { fanzsoreb_is_book(full.as_ptr(), full.len()) }, |_| fast::check(&full));
+        compare!(table, "open", size, || full.clone(), |b: &mut Vec<u8>| unsafe { fanzsoreb_open(b.as_mut_ptr(), b.len(), 110, 600_000) }, |b: &mut Vec<u8>| fast::open(b, 110, 600_000));
+        compare!(table, "number of entries", size, read, |_| { let c = unsafe { fanzsoreb_count(full.as_ptr(), full.len()) }; (c.0, c.1) }, |_| fast::count(&full));
+        compare!(table, "one entry", size, read, |_| { let e = unsafe { fanzsoreb_entry(full.as_ptr(), full.len(), (size / 2) as u32) }; (e.0, e.1, e.2, e.3, e.4, e.5, e.6) }, |_| fast::one_entry(&full, (size / 2) as u32));
+        compare!(table, "post", size.min(3071), || free.clone(), |b: &mut Vec<u8>| { let r = unsafe { fanzsoreb_post(b.as_mut_ptr(), b.len(), 7, DAY, 6, 8, 5) }; (r.0, r.1) }, |b: &mut Vec<u8>| fast::post(b, 7, DAY, 6, 8, 5));
+        compare!(table, "withdraw", size, || full.clone(), |b: &mut Vec<u8>| unsafe { fanzsoreb_withdraw(b.as_mut_ptr(), b.len(), (size / 2) as u32) }, |b: &mut Vec<u8>| fast::withdraw(b, (size / 2) as u32));
+        compare!(table, "tally", size, read, |_| { let t = unsafe { fanzsoreb_tally(full.as_ptr(), full.len(), 7, DAY) }; (t.0, t.1 .1, t.2) }, |_| fast::tally(&full, 7, DAY));
+        compare!(table, "day-ahead balance", size, read, |_| { let b = unsafe { fanzsoreb_day_ahead(full.as_ptr(), full.len(), 7, DAY) }; (b.0, b.1) }, |_| fast::balance(&full, 7, DAY, true));
+        compare!(table, "delivery balance", size, read, |_| { let b = unsafe { fanzsoreb_delivery(full.as_ptr(), full.len(), 7, DAY) }; (b.0, b.1) }, |_| fast::balance(&full, 7, DAY, false));
+        compare!(table, "collateral", size, read, |_| { let c = unsafe { fanzsoreb_collateral(full.as_ptr(), full.len(), 7, DAY, 0, 0, 0, 0, 0, 1, 0, 0, 0, 0, 0, 0, 0, 0, 0, 0, 0, 1) }; (c.0, c.6) }, |_| fast::supplier_total(&full, 7, DAY));
+        compare!(table, "control", size.min(3071), || free.clone(), |b: &mut Vec<u8>| { let r = unsafe { fanzsoreb_control(b.as_mut_ptr(), b.len(), DAY) }; (r.0, r.1, r.2, r.3) }, |b: &mut Vec<u8>| fast::control(b, DAY, &months));
         let lines = file(size);
         let empty = book(0);
-        compare!("day file", size, || empty.clone(), |b: &mut Vec<u8>| { let r = unsafe { fanzsoreb_read_file(b.as_mut_ptr(), b.len(), lines.as_ptr(), lines.len()) }; (r.0, r.1) }, |b: &mut Vec<u8>| fast::read_file(b, &lines));
+        compare!(table, "day file", size, || empty.clone(), |b: &mut Vec<u8>| { let r = unsafe { fanzsoreb_read_file(b.as_mut_ptr(), b.len(), lines.as_ptr(), lines.len()) }; (r.0, r.1) }, |b: &mut Vec<u8>| fast::read_file(b, &lines));
     }
     let mut d = Draw(2463534242);
     for (hours, rows) in [(0usize, 1usize), (745, 1), (745, 16), (745, 64)] {
         let prices: Vec<u8> = (0..hours).flat_map(|_| (d.next(1_000_001) as u32).to_le_bytes()).collect();
         let volumes: Vec<u8> = (0..hours * rows).flat_map(|_| (d.next(20_000_001) as i32 - 10_000_000).to_le_bytes()).collect();
         let dm: Vec<u8> = (0..hours).flat_map(|_| (d.next(20_000_001) as i32 - 10_000_000).to_le_bytes()).collect();
-        compare!("month step (figures)", hours * rows, || (), |_| { let m = unsafe { fanzsoreb_month(prices.as_ptr(), prices.len(), volumes.as_ptr(), volumes.len(), rows as u32, dm.as_ptr(), dm.len(), 0) }; (m.0, m.1 .0, m.1 .1) }, |_| fast::month(&prices, &volumes, rows as u32, &dm, 0));
+        compare!(table, "month step (figures)", hours * rows, || (), |_| { let m = unsafe { fanzsoreb_month(prices.as_ptr(), prices.len(), volumes.as_ptr(), volumes.len(), rows as u32, dm.as_ptr(), dm.len(), 0) }; (m.0, m.1 .0, m.1 .1) }, |_| fast::month(&prices, &volumes, rows as u32, &dm, 0));
     }
     let offers: Vec<u32> = (0..1000).map(|_| d.next(1_000_000_000) as u32).collect();
-    compare!("1,000 sales ceilings", 0, || (), |_| offers.iter().map(|&o| unsafe { fanzsoreb_ceiling(o, o / 2, o / 3, o / 5) }.1).sum::<u32>(), |_| offers.iter().map(|&o| fast::ceiling(o, o / 2, o / 3, o / 5).1).sum::<u32>());
+    compare!(table, "1,000 sales ceilings", 0, || (), |_| offers.iter().map(|&o| unsafe { fanzsoreb_ceiling(o, o / 2, o / 3, o / 5) }.1).sum::<u32>(), |_| offers.iter().map(|&o| fast::ceiling(o, o / 2, o / 3, o / 5).1).sum::<u32>());
+    ratios(&table);
+    growth(&table);
 }

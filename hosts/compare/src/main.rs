@@ -10,6 +10,7 @@ mod rng;
 mod rounds;
 #[cfg(test)]
 mod tests;
+mod worked;
 
 use rounds::Plan;
 use std::process::ExitCode;
@@ -17,7 +18,7 @@ use std::process::ExitCode;
 const USAGE: &str = "compare [--seed N] [--rounds N] [--call NAME] [--only ROUND] [--program PATH]
   --seed N       the draws' seed (default 1)
   --rounds N     comparisons a call (default 200000; 2000 for the program)
-  --call NAME    one call only; list is lists of calls, balance the program
+  --call NAME    one call only; list is lists of calls, worked the worked figures, balance the program
   --only ROUND   one round of that call, with its inputs and answers
   --program PATH also compare what the program balance prints";
 
@@ -66,7 +67,10 @@ fn arguments() -> Option<Arguments> {
     }
     if let Some(name) = &arguments.call {
         let program = name == "balance" && arguments.program.is_some();
-        if !call::NAMES.contains(&name.as_str()) && name != "list" && !program {
+        if !call::NAMES.contains(&name.as_str())
+            && !["list", "worked"].contains(&name.as_str())
+            && !program
+        {
             return None;
         }
     }
@@ -97,6 +101,12 @@ fn main() -> ExitCode {
     fault::watch();
     println!("seed {}", arguments.seed);
     let (mut passed, mut failed) = (0, 0);
+    if asked("worked") {
+        let worked = worked::figures(&engine);
+        println!("worked figures: {} compared", worked.compared);
+        passed += worked.compared - worked.failed;
+        failed += worked.failed;
+    }
     for name in call::NAMES {
         if asked(name) {
             let counts = rounds::single(&engine, &plan(ROUNDS), name);

@@ -6,6 +6,7 @@ use crate::engine::{bytes, words, Engine, Post, Second, Tables};
 use crate::fault;
 use crate::rng::Rng;
 use crate::rounds::{lists, single, Plan};
+use crate::worked::figures;
 use second::calendar::period_of;
 use second::{
     BalanceAnswer, Book, Case, CeilingAnswer, Collateral, Controlled, Counted, Entry, EntryRead,
@@ -32,6 +33,24 @@ fn no_difference_where_there_is_none() {
     assert_eq!(counts.values().map(|c| c.failed).sum::<u64>(), 0);
     assert!(counts.values().map(|c| c.compared).sum::<u64>() >= 10_000);
     assert!(counts.len() >= 14);
+}
+
+/// The worked figures hold for the second calculation, and show these slips.
+#[test]
+fn worked_figures() {
+    let worked = figures(&Second);
+    assert_eq!((worked.compared, worked.failed), (64, 0));
+    for slip in [
+        "open_default: TM 500,000",
+        "delivery: tender and import are added",
+        "detected: zero too",
+        "month: halves down",
+        "ceiling: below only",
+        "collateral: a day's debt may be negative",
+        "control: a lost purchase inside the first pass",
+    ] {
+        assert!(figures(&Wrong(slip)).failed > 0, "{slip}");
+    }
 }
 
 #[test]

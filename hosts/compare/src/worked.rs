@@ -1,0 +1,178 @@
+//! The worked figures of document 01, 'Figures to hold it to', and the sample
+//! of its day file, on an engine. The numbers are the paper's own.
+
+use crate::engine::{bytes, Engine, Post, Tables};
+use second::{Case, Collateral, Controlled, FileRead, Month};
+use std::fmt::Debug;
+
+/// What was held against the paper, and how much of it differs.
+pub struct Worked<'a, E: Engine> {
+    engine: &'a E,
+    pub compared: u64,
+    pub failed: u64,
+}
+
+/// Every worked figure on an engine.
+pub fn figures<E: Engine>(engine: &E) -> Worked<'_, E> {
+    let mut worked = Worked { engine, compared: 0, failed: 0 };
+    worked.balances();
+    worked.margins();
+    worked.months();
+    worked.items();
+    worked.ceilings();
+    worked.sample();
+    worked.calendar();
+    worked
+}
+
+impl<E: Engine> Worked<'_, E> {
+    fn holds<T: PartialEq + Debug>(&mut self, what: &str, got: T, stated: T) {
+        self.compared += 1;
+        if got != stated {
+            self.failed += 1;
+            println!("{what}: {got:?}, stated is {stated:?}");
+        }
+    }
+
+    /// A default book with entries of party, day, type, counterparty and amount.
+    fn book(&mut self, entries: &[(u32, u32, u32, u32, u64)]) -> Vec<u8> {
+        let mut book = vec![0; 12 + 20 * (entries.len() + 2)];
+        self.holds("opening without figures", self.engine.open_default(&mut book), 0);
+        for &(party, day, entry_type, counterparty, amount) in entries {
+            let post = Post { party, day, entry_type, counterparty, amount };
+            self.holds("a post", self.engine.post(&mut book, post).answer, 0);
+        }
+        book
+    }
+
+    fn balances(&mut self) {
+        let book = self.book(&[]);
+        self.holds(
+            "opening without figures",
+            &book[..12],
+            &bytes(&[0x6000_0000, 0x7000_006E, 0x8009_27C0]),
+        );
+        self.holds("no entries", self.engine.day_ahead(&book, 1, 0).balance, -60_000_000);
+        self.holds("no entries", self.engine.delivery(&book, 1, 0).balance, -60_000_000);
+        for (amount, balance, detected) in [(600_000, 0, 0), (600_001, 100, 1)] {
+            let book = self.book(&[(1, 9_000, 1, 0, amount)]);
+            let (ahead, due) =
+                (self.engine.day_ahead(&book, 1, 9_000), self.engine.delivery(&book, 1, 9_000));
+            self.holds("a sale's day-ahead balance", ahead.balance, balance);
+            self.holds("a sale's delivery balance", due.balance, balance);
+            self.holds("a sale detected", self.engine.detected(balance), detected);
+        }
+        // 110 hundredths of A = 300,000 are less than the tolerance, so a coefficient of 1,000 shows A.
+        let mut book = vec![0; 12 + 20 * 2];
+        self.holds("opening", self.engine.open(&mut book, 1_000, 0), 0);
+        for (entry_type, amount) in [(15, 300_000), (16, 200_000)] {
+            let post = Post { party: 1, day: 5, entry_type, counterparty: 0, amount };
+            self.holds("a post", self.engine.post(&mut book, post).answer, 0);
+        }
+        self.holds("tender and import", self.engine.delivery(&book, 1, 5).balance, -300_000_000);
+    }
+
+    fn collateral(&mut self, book: &[u8], case: Case) -> Collateral {
+        let answer = self.engine.collateral(book, &case);
+        self.holds("a case", answer.answer, 0);
+        answer
+    }
+
+    fn margins(&mut self) {
+        let book = self.book(&[]);
+        for (capacity, margin) in
+            [(49_999, 1_000_000), (50_000, 1_000_000), (50_001, 1_000_020), (1_000_001, 20_000_000)]
+        {
+            let case = Case { party: 1, licence: 2, capacity, ..Case::supplier() };
+            let answer = self.collateral(&book, case);
+            self.holds("generation margin", answer.margin, margin);
+        }
+    }
+
+    fn months(&mut self) {
+        let figures = |v: &[i32]| bytes(&v.iter().map(|&x| x as u32).collect::<Vec<_>>());
+        let (prices, imbalance, dm) = (figures(&[100, 101]), figures(&[-1, -1]), figures(&[0, 0]));
+        let two = Tables { prices: &prices, imbalance: &imbalance, rows: 1, dm: &dm, group: 0 };
+        let none = Tables { prices: &[], imbalance: &[], rows: 1, dm: &[], group: 0 };
+        for (tables, aosmf) in [(two, 101), (none, 0)] {
+            let answer = self.engine.month(tables);
+            self.holds("average price", (answer.answer, answer.aosmf), (0, aosmf));
+        }
+    }
+
+    fn items(&mut self) {
+        let book = self.book(&[
+            (1, 999, 17, 0, 900),
+            (1, 998, 18, 0, 500),
+            (1, 997, 17, 0, 100),
+            (1, 996, 17, 0, 5_000),
+        ]);
+        let plain = Case { party: 1, day: 1_000, ..Case::supplier() };
+        let answer = self.collateral(&book, Case { defaults: 1, ..plain });
+        self.holds("trading", answer.trading, 1_050);
+        let latest = Month { aosmf: 175_000, aedm: -2_001 };
+        let months = [latest, Month::default(), Month::default()];
+        let answer = self.collateral(&book, Case { rk: 110, used: 1, months, ..plain });
+        self.holds("imbalance", answer.imbalance, 385_193);
+        for (best, score, share) in [(3, 1, 667), (3, 3, 200), (1, 1, 200)] {
+            let answer = self.collateral(&book, Case { yt: 1_000, best, score, ..plain });
+            self.holds("YEK", answer.yek, share);
+        }
+    }
+
+    fn ceilings(&mut self) {
+        for (offer, recordable) in [(26_000, 1), (26_001, 0)] {
+            let answer = self.engine.ceiling(offer, 16_000, 666, 1_000);
+            self.holds("an offer recordable", (answer.answer, answer.recordable), (0, recordable));
+        }
+    }
+
+    fn sample(&mut self) {
+        let file = bytes(&[
+            0x1002_0001,
+            0x2000_2328,
+            0x3000_0206,
+            0x400A_AE60,
+            0x5000_0000,
+            0x3000_000C,
+            0x4007_A120,
+            0x5000_0000,
+        ]);
+        let mut book = self.book(&[]);
+        let read = self.engine.read_file(&mut book, &file);
+        self.holds("the sample's lines", read, FileRead { answer: 0, posted: 2 });
+        for (party, balance) in [(1, 10_000_000), (2, -77_000_000)] {
+            self.holds(
+                "the sample's day-ahead",
+                self.engine.day_ahead(&book, party, 9_000).balance,
+                balance,
+            );
+            self.holds(
+                "the sample's delivery",
+                self.engine.delivery(&book, party, 9_000).balance,
+                balance,
+            );
+        }
+    }
+
+    /// Day 59 is 2000-02-29: a pair cancelled on it is repeated on day 58, not on day 60. The buyer sells 650,000:
+    /// covered by the 700,000 bought (65,000,000 − 77,000,000), not without them (65,000,000 − 60,000,000).
+    fn calendar(&mut self) {
+        for (day, second, cancelled) in [(58, 1, 2), (60, 0, 1)] {
+            let mut book = self.book(&[
+                (1, 59, 6, 2, 700_000),
+                (1, day, 6, 2, 700_000),
+                (2, day, 6, 3, 650_000),
+            ]);
+            let earlier = self.engine.control(&mut book, 59);
+            self.holds(
+                "control of day 59",
+                earlier,
+                Controlled { answer: 0, first: 1, second: 0, cancelled: 1 },
+            );
+            let stated = Controlled { answer: 0, first: 1, second, cancelled };
+            let got = self.engine.control(&mut book, day);
+            self.holds("control of another day", got, stated);
+        }
+    }
+}
