@@ -16,13 +16,13 @@ use Rattle.rules.specs.Entry.{Record, key, legal, cancelled}
 use Rattle.rules.specs.Words.{isBook, entries, countOf, coefficientOf, toleranceOf, decode, entryOk, laid}
 use Rattle.rules.specs.Book.{entryAt, readOf, restatused, placeOf}
 use Rattle.rules.specs.Ledger.{noRecord}
-use Rattle.rules.specs.Control.{Parties, isDoomed, cancelOf}
+use Rattle.rules.specs.Control.{Parties, isToCancel, cancelOf}
 use Rattle.rules.specs.declared.EntryRead.{EntryRead}
 use Rattle.rules.proofs.WordLaws.{Fits, IsLaid, laid-book, book-facts, book-laid, legal-bounds}
 use Rattle.rules.proofs.BookLaws.{entry-at-laid, restatused-laid, withStatus}
 use Rattle.book.proofs.BookCode.{Placed, book-entry}
 use Rattle.control.specs.Tables.{recordRead, cancelledWords}
-use Rattle.control.proofs.ControlLaws.{cancelOne, doomed-sale, one-legal}
+use Rattle.control.proofs.ControlLaws.{cancelOne, to-cancel-is-sale, one-legal}
 
 -- the first entries as the pass leaves them, the others as they were
 unfoldable pub partly : Parties → ℕ → ℕ → List Record → List Record
@@ -71,11 +71,11 @@ module _ (who : Parties) (d : ℕ) where
   partly-more zero (r ∷ rs) h = refl
   partly-more (suc i) (r ∷ rs) h = ap (λ ss. cancelOne who d r ∷ ss) (partly-more i rs (omega arith))
 
-  pub count-more : (i : ℕ) (rs : List Record) → i < length rs → count (isDoomed who d) (take (i + 1) rs) ≡ count (isDoomed who d) (take i rs) + cond (isDoomed who d (getD rs i noRecord)) 1 0
+  pub count-more : (i : ℕ) (rs : List Record) → i < length rs → count (isToCancel who d) (take (i + 1) rs) ≡ count (isToCancel who d) (take i rs) + cond (isToCancel who d (getD rs i noRecord)) 1 0
   unfolding count total
   count-more i rs h =
       rw (add-one i, take-suc rs i noRecord h)
-      (omega (arith, total-append (λ r. cond (isDoomed who d r) 1 0) (take i rs) (getD rs i noRecord ∷ [])))
+      (omega (arith, total-append (λ r. cond (isToCancel who d r) 1 0) (take i rs) (getD rs i noRecord ∷ [])))
 
   module _ (ws : List ℕ) (b : isBook ws ≡ true) where
     partly-fits : (i : ℕ) → Fits (coefficientOf ws) (toleranceOf ws) (partly who d i (entries ws)) ws
@@ -126,10 +126,10 @@ module _ (who : Parties) (d : ℕ) where
             let l = all-getD legal (entries ws) (book-facts ws b .legals) i noRecord in-entries in
             legal-bounds (recordRead e) (rw through-read l) .party
 
-        pub through-cancelled : {us : List ℕ} → isDoomed who d (recordRead e) ≡ true → us ≡ restatused cancelled vs i → Through who d ws (i + 1) us
+        pub through-cancelled : {us : List ℕ} → isToCancel who d (recordRead e) ≡ true → us ≡ restatused cancelled vs i → Through who d ws (i + 1) us
         through-cancelled y u =
-            let z : isDoomed who d (getD (entries ws) i noRecord) ≡ true = rw through-read at y in
-            let c = doomed-sale who d (getD (entries ws) i noRecord) z in
+            let z : isToCancel who d (getD (entries ws) i noRecord) ≡ true = rw through-read at y in
+            let c = to-cancel-is-sale who d (getD (entries ws) i noRecord) z in
             u
             ∙ ap (λ us. restatused cancelled us i) t
             ∙ restatused-laid cancelled (coefficientOf ws) (toleranceOf ws) (partly who d i (entries ws)) ws i
@@ -138,9 +138,9 @@ module _ (who : Parties) (d : ℕ) where
             ∙ ap (λ rs. laid (coefficientOf ws) (toleranceOf ws) rs ws)
             (sym (rw (add-one i) (partly-more i (entries ws) in-entries ∙ rw (z, partly-at i (entries ws)))))
 
-        pub through-kept : isDoomed who d (recordRead e) ≡ false → Through who d ws (i + 1) vs
+        pub through-kept : isToCancel who d (recordRead e) ≡ false → Through who d ws (i + 1) vs
         through-kept y =
-            let z : isDoomed who d (getD (entries ws) i noRecord) ≡ false = rw through-read at y in
+            let z : isToCancel who d (getD (entries ws) i noRecord) ≡ false = rw through-read at y in
             t
             ∙ ap (λ rs. laid (coefficientOf ws) (toleranceOf ws) rs ws)
             (sym (rw (add-one i) (partly-more i (entries ws) in-entries

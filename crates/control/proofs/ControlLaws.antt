@@ -22,7 +22,7 @@ use Rattle.rules.specs.Book.{isClosed, isMarkOf, entryAt}
 use Rattle.rules.specs.Ledger.{noRecord}
 use Rattle.rules.specs.Balance.{Volume, counted, countedTo, sumOf, boughtBy, tallyOf, balanceOf, balance, volumeTypes}
 use Rattle.rules.specs.Compared.{Each}
-use Rattle.rules.specs.Control.{Parties, isDoomed, cancelOf, firstPass, secondPass, afterFirst, afterSecond, markOf, controlledRecords, controlCause, cancelledEntries, controlWords}
+use Rattle.rules.specs.Control.{Parties, isToCancel, cancelOf, firstPass, secondPass, afterFirst, afterSecond, markOf, controlledRecords, controlCause, cancelledEntries, controlWords}
 use Rattle.rules.proofs.WordLaws.{book-facts, book-laid}
 use Rattle.rules.proofs.SumOrder.{forTests, toTests, counts-for, counts-to}
 use Rattle.rules.proofs.BookLaws.{Stays, laid-stays, cancel-legal, mark-legal, withStatus, length-snoc, entry-at}
@@ -35,16 +35,16 @@ pub record IsSale (d : ℕ) (r : Record) : Type 0 where
 
 -- what one entry becomes in a pass
 abbrev pub cancelOne : Parties → ℕ → Record → Record
-cancelOne who d r = cond (isDoomed who d r) (withStatus cancelled r) r
+cancelOne who d r = cond (isToCancel who d r) (withStatus cancelled r) r
 
 -- a record as a control may leave it: as it was, or cancelled where it was such a sale
 abbrev pub Cancels : ℕ → Record → Record → Type 0
 Cancels d r s = (s ≡ r) ⊎ (IsSale d r × (s ≡ withStatus cancelled r))
 
 module _ (who : Parties) (d : ℕ) where
-  pub doomed-sale : (r : Record) → isDoomed who d r ≡ true → IsSale d r
-  unfolding isDoomed
-  doomed-sale r e =
+  pub to-cancel-is-sale : (r : Record) → isToCancel who d r ≡ true → IsSale d r
+  unfolding isToCancel
+  to-cancel-is-sale r e =
       let h = every-holds (isStanding r ∷ eqb (key r .day) d ∷ isBilateral (key r) ∷ who (key r .party) ∷ []) e in
       record { stands = eqb-true _ _ (h .0); day = eqb-true _ _ (h .1 .0); bilateral = h .1 .1 .0 }
 
@@ -55,8 +55,8 @@ module _ (who : Parties) (d : ℕ) where
 
   pub one-legal : (r : Record) → legal r ≡ true → legal (cancelOne who d r) ≡ true
   one-legal r l =
-      elim (bool-cases (isDoomed who d r)) [
-        | inl e ↦ rw e (cancel-legal r l (doomed-sale r e .bilateral))
+      elim (bool-cases (isToCancel who d r)) [
+        | inl e ↦ rw e (cancel-legal r l (to-cancel-is-sale r e .bilateral))
         | inr e ↦ rw e l
       ]
 
@@ -69,20 +69,20 @@ module _ (who : Parties) (d : ℕ) where
 
   one-cancels : (r : Record) → Cancels d r (cancelOne who d r)
   one-cancels r =
-      elim (bool-cases (isDoomed who d r)) [
-        | inl e ↦ rw e (inr (doomed-sale r e, refl))
+      elim (bool-cases (isToCancel who d r)) [
+        | inl e ↦ rw e (inr (to-cancel-is-sale r e, refl))
         | inr e ↦ rw e (inl refl)
       ]
 
   -- what is cancelled in a pass is counted
-  one-counted : (r : Record) → cond (isCancelled (cancelOne who d r)) 1 0 ≡ cond (isCancelled r) 1 0 + cond (isDoomed who d r) 1 0
+  one-counted : (r : Record) → cond (isCancelled (cancelOne who d r)) 1 0 ≡ cond (isCancelled r) 1 0 + cond (isToCancel who d r) 1 0
   one-counted r =
-      elim (bool-cases (isDoomed who d r)) [
-        | inl e ↦ rw (e, doomed-sale r e .stands)
+      elim (bool-cases (isToCancel who d r)) [
+        | inl e ↦ rw (e, to-cancel-is-sale r e .stands)
         | inr e ↦ rw e (omega arith)
       ]
 
-  pub cancel-counted : (rs : List Record) → count isCancelled (cancelOf who d rs) ≡ count isCancelled rs + count (isDoomed who d) rs
+  pub cancel-counted : (rs : List Record) → count isCancelled (cancelOf who d rs) ≡ count isCancelled rs + count (isToCancel who d) rs
   unfolding count total cancelOf
   cancel-counted [] = refl
   cancel-counted (r ∷ rs) = omega (arith, one-counted r, cancel-counted rs)
@@ -105,9 +105,9 @@ bought-elsewhere p e r h =
     ]
 
 -- a sum over the records of a pass, where the pass changes nothing that is added
-module _ (who : Parties) (d : ℕ) (f : Record → ℕ) (h : (r : Record) → isDoomed who d r ≡ true → f (withStatus cancelled r) ≡ f r) where
+module _ (who : Parties) (d : ℕ) (f : Record → ℕ) (h : (r : Record) → isToCancel who d r ≡ true → f (withStatus cancelled r) ≡ f r) where
   one-same : (r : Record) → f (cancelOne who d r) ≡ f r
-  one-same r = elim (bool-cases (isDoomed who d r)) [ inl e ↦ rw e (h r e) | inr e ↦ rw e ]
+  one-same r = elim (bool-cases (isToCancel who d r)) [ inl e ↦ rw e (h r e) | inr e ↦ rw e ]
 
   pub total-cancel : (rs : List Record) → total f (cancelOf who d rs) ≡ total f rs
   unfolding cancelOf
@@ -119,7 +119,7 @@ module _ (R TM d : ℕ) (rs : List Record) (e : ℕ) (other : d ≡ e → ⊥) (
   cancel-keeps : (who : Parties) (ss : List Record) → total f (cancelOf who d ss) ≡ total f ss
   cancel-keeps who ss =
       total-cancel who d f
-      (λ r q. let s = doomed-sale who d r q .day in elsewhere (withStatus cancelled r) (λ k. other (sym s ∙ k)) ∙ sym (elsewhere r (λ k. other (sym s ∙ k))))
+      (λ r q. let s = to-cancel-is-sale who d r q .day in elsewhere (withStatus cancelled r) (λ k. other (sym s ∙ k)) ∙ sym (elsewhere r (λ k. other (sym s ∙ k))))
       ss
 
   controlled-total : total f (controlledRecords R TM d rs) ≡ total f rs

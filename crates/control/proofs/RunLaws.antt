@@ -19,7 +19,7 @@ use Rattle.numbers.proofs.CauseLaws.{done-zero, done-else}
 use Rattle.rules.specs.Entry.{Record, keyOf, recordOf, legal, standing, markType, dayOk}
 use Rattle.rules.specs.Words.{isBook, entries, countOf, coefficientOf, toleranceOf, roomIn, usedWords, laid}
 use Rattle.rules.specs.Book.{isClosed, storedAt, posted, placeOf}
-use Rattle.rules.specs.Control.{Parties, detectedIn, isDoomed, cancelOf, isRepeatedBuyer, firstPass, afterFirst, secondPass, afterSecond, markOf, controlledRecords, controlCause, detectedParties, cancelledEntries, controlAnswer, controlWords}
+use Rattle.rules.specs.Control.{Parties, detectedIn, isToCancel, cancelOf, isRepeatedBuyer, firstPass, afterFirst, secondPass, afterSecond, markOf, controlledRecords, controlCause, detectedParties, cancelledEntries, controlAnswer, controlWords}
 use Rattle.rules.specs.declared.Controlled.{Controlled}
 use Rattle.rules.proofs.WordLaws.{Fits, room-words, book-facts, book-laid}
 use Rattle.rules.proofs.BookLaws.{Stays, laid-stays, posted-book, mark-legal, length-snoc}
@@ -95,7 +95,7 @@ module _ (ws : List ℕ) (b : isBook ws ≡ true) (d : ℕ) where
 
   pub pass-few : (who : Parties) → passOf who d ws .entries ≤ 3072
   unfolding passOf
-  pass-few who = let f = book-facts ws b in omega (arith, count-le-length (isDoomed who d) (entries ws), f .count, f .room)
+  pass-few who = let f = book-facts ws b in omega (arith, count-le-length (isToCancel who d) (entries ws), f .count, f .room)
 
   -- the mark takes the next place
   module _ (room : countOf ws < roomIn (length ws)) where
@@ -124,7 +124,7 @@ unfolding posted
 mark-posted ws d q p s = rw (s, p, q)
 
 -- the counts of a pass
-pub pass-counts : (ws : List ℕ) (d : ℕ) (who : Parties) {p n : ℕ} → p ≡ detectedParties who → n ≡ count (isDoomed who d) (entries ws) →
+pub pass-counts : (ws : List ℕ) (d : ℕ) (who : Parties) {p n : ℕ} → p ≡ detectedParties who → n ≡ count (isToCancel who d) (entries ws) →
     _≡_ {A = Passed} (record { parties = p; entries = n }) (passOf who d ws)
 unfolding passOf
 pass-counts ws d who p n = ap₂ (λ x y. record { parties = x; entries = y }) p n

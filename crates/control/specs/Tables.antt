@@ -12,7 +12,7 @@ use Rattle.calendar.specs.Calendar.{monthOf}
 use Rattle.rules.specs.Entry.{Record, keyOf, recordOf, key, isStanding, isCancelled, isVolume, isExport, bilateral, partyOk, lastParty}
 use Rattle.rules.specs.Words.{entries, coefficientOf, toleranceOf, laid}
 use Rattle.rules.specs.Balance.{dayAhead, balanceOf, isDetected}
-use Rattle.rules.specs.Control.{Parties, detectedIn, isDoomed, cancelOf, detectedParties}
+use Rattle.rules.specs.Control.{Parties, detectedIn, isToCancel, cancelOf, detectedParties}
 use Rattle.position.specs.Bounded.{Bounded}
 use Rattle.rules.specs.declared.Tally.{Tally}
 use Rattle.rules.specs.declared.EntryRead.{EntryRead}
@@ -130,4 +130,4 @@ unfoldable pub cancelledWords : Parties → ℕ → List ℕ → List ℕ
 cancelledWords who d ws = laid (coefficientOf ws) (toleranceOf ws) (cancelOf who d (entries ws)) ws
 
 unfoldable pub passOf : Parties → ℕ → List ℕ → Passed
-passOf who d ws = record { parties = detectedParties who; entries = count (isDoomed who d) (entries ws) }
+passOf who d ws = record { parties = detectedParties who; entries = count (isToCancel who d) (entries ws) }

@@ -7,7 +7,7 @@ ghost use Rattle.numbers.specs.Sums.{count};
 ghost use Rattle.rules.specs.Entry.{keyOf, markType, lastParty, lastDay};
 ghost use Rattle.rules.specs.Words.{isBook, entries, countOf, roomIn};
 ghost use Rattle.rules.specs.Book.{posted};
-ghost use Rattle.rules.specs.Control.{isDoomed, detectedParties};
+ghost use Rattle.rules.specs.Control.{isToCancel, detectedParties};
 ghost use Rattle.control.specs.Tables.{flagged, recordRead, cancelledWords, passOf};
 use crate::sums::Flags;
 use crate::sums::NUMBERS;
@@ -21,9 +21,9 @@ pub struct Passed {
 }
 
 // A standing bilateral sale of the day, counterparty above 0, of a flagged party.
-fn is_doomed(e: EntryRead, day: u32, flags: &Flags) -> bool
+fn is_to_cancel(e: EntryRead, day: u32, flags: &Flags) -> bool
     requires { ⌜ e .party ≤ lastParty ⌝ }
-    ensures { λ r. ⌜ r ≡ isDoomed (flagged (now (flags .entry))) day (recordRead e) ⌝ }
+    ensures { λ r. ⌜ r ≡ isToCancel (flagged (now (flags .entry))) day (recordRead e) ⌝ }
 {
     (e.status == words::STANDING)
         & (e.day == day)
@@ -34,7 +34,7 @@ fn is_doomed(e: EntryRead, day: u32, flags: &Flags) -> bool
 // The sales of flagged parties become cancelled, and are counted.
 fn cancel(book: &mut [u32], day: u32, flags: &Flags) -> u32
     requires { ⌜ isBook (now book) ≡ true ⌝ }
-    ensures cancelled { λ r. ⌜ r ≡ count (isDoomed (flagged (now (flags .entry))) day) (entries (now (book .entry))) ⌝ }
+    ensures cancelled { λ r. ⌜ r ≡ count (isToCancel (flagged (now (flags .entry))) day) (entries (now (book .entry))) ⌝ }
     ensures words { λ r. ⌜ now (book .exit) ≡ cancelledWords (flagged (now (flags .entry))) day (now (book .entry)) ⌝ }
 {
     let count = words::count_of(book) as usize;
@@ -42,7 +42,7 @@ fn cancel(book: &mut [u32], day: u32, flags: &Flags) -> u32
     let mut i = 0;
     while i < count {
         let e = words::read_at(book, 3 + 5 * i);
-        if is_doomed(e, day, flags) {
+        if is_to_cancel(e, day, flags) {
             words::set_status(book, i, words::CANCELLED);
             n += 1;
         }

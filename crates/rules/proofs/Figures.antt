@@ -21,7 +21,7 @@ use Rattle.rules.specs.Month.{Tables, monthCause, weightedPrices, weight
 use Rattle.rules.specs.Collateral.{noMonth, plainCase, generationMargin, margin, tradingDays, debtOf, debts, debt, quarters, trading, highestPrice, lowestVolume, imbalanceOver, imbalance, risk, yek, totalOf, monthOk, figuresOk, collateralCause, collateralOf, collateralAnswer}
 use Rattle.rules.specs.CaseFigures.{withParty, withDay, withLicence, withCapacity, withNonbusiness, withHoliday, withDefaults, withResponsible, withMonths, withUsed, withRk, withRt, withYt, withScore, withBest}
 use Rattle.rules.specs.Ceiling.{isRecordable, ceilingCause, ceilingAnswer}
-use Rattle.rules.specs.Control.{detectedIn, isDoomed, cancelOf, isRepeatedBuyer, firstPass, afterFirst, secondPass, afterSecond, markOf, controlledRecords, controlCause, detectedParties, cancelledEntries, controlAnswer, controlWords}
+use Rattle.rules.specs.Control.{detectedIn, isToCancel, cancelOf, isRepeatedBuyer, firstPass, afterFirst, secondPass, afterSecond, markOf, controlledRecords, controlCause, detectedParties, cancelledEntries, controlAnswer, controlWords}
 use Rattle.rules.specs.DayFile.{wordsOf, isShaped, isFile, Item, itemsFrom, items, itemCause, linesOf, fileCause, fileAnswer, fileWords, itemNames, fileNames}
 use Rattle.rules.specs.Ledger.{Call, post, withdraw, after, answers, callAnswer, callWords, bookAfter, bookAnswers}
 use Rattle.rules.specs.declared.Month.{Month}
@@ -127,7 +127,7 @@ starred =
 
 -- what the lists compute with: to unfold `computed` is to unfold all of these
 abbrev computed : Unit {0}
-unfolding sum total count countBelow all any halfUp roundUp sumℤ dateOf monthOf monthFrom monthStart monthLength daysIn isLeap counterpartyOk amountLimit fault markOk statusOk legal encode decode entryOk entriesOk readEntries isBook entries encodeAll usedWords laid openCause openWords isClosed shutTo postCause storedAt posted postAnswer postWords entryAt withdrawCause restatused withdrawWords counted countedTo sumOf boughtBy tallyOf acquired saleSide coverSide balanceOf balance isDetected partyDayCause balanceAnswer tallyAnswer monthCause weightedPrices weights aosmf aedm monthFigures monthAnswer generationMargin margin tradingDays debtOf debts debt quarters trading highestPrice lowestVolume imbalanceOver imbalance risk yek totalOf monthOk figuresOk collateralCause collateralOf collateralAnswer isRecordable ceilingCause ceilingAnswer detectedIn isDoomed cancelOf isRepeatedBuyer firstPass afterFirst secondPass afterSecond markOf controlledRecords controlCause detectedParties cancelledEntries controlAnswer controlWords wordsOf isShaped isFile itemsFrom items itemCause linesOf fileCause fileAnswer fileWords itemNames fileNames after answers callAnswer callWords bookAfter bookAnswers
+unfolding sum total count countBelow all any halfUp roundUp sumℤ dateOf monthOf monthFrom monthStart monthLength daysIn isLeap counterpartyOk amountLimit fault markOk statusOk legal encode decode entryOk entriesOk readEntries isBook entries encodeAll usedWords laid openCause openWords isClosed shutTo postCause storedAt posted postAnswer postWords entryAt withdrawCause restatused withdrawWords counted countedTo sumOf boughtBy tallyOf acquired saleSide coverSide balanceOf balance isDetected partyDayCause balanceAnswer tallyAnswer monthCause weightedPrices weights aosmf aedm monthFigures monthAnswer generationMargin margin tradingDays debtOf debts debt quarters trading highestPrice lowestVolume imbalanceOver imbalance risk yek totalOf monthOk figuresOk collateralCause collateralOf collateralAnswer isRecordable ceilingCause ceilingAnswer detectedIn isToCancel cancelOf isRepeatedBuyer firstPass afterFirst secondPass afterSecond markOf controlledRecords controlCause detectedParties cancelledEntries controlAnswer controlWords wordsOf isShaped isFile itemsFrom items itemCause linesOf fileCause fileAnswer fileWords itemNames fileNames after answers callAnswer callWords bookAfter bookAnswers
 computed = tt
 
 pub starred-hold : every starred ≡ true

@@ -24,12 +24,12 @@ unfoldable pub detectedIn : ℕ → ℕ → ℕ → List Record → Parties
 detectedIn R TM d rs p = partyOk p && isDetected (balance dayAhead R TM p d rs)
 
 -- the day's standing bilateral sales, counterparty above 0, of these parties become cancelled together
-unfoldable pub isDoomed : Parties → ℕ → Record → Bool
-isDoomed who d r =
+unfoldable pub isToCancel : Parties → ℕ → Record → Bool
+isToCancel who d r =
     every (isStanding r ∷ eqb (key r .day) d ∷ isBilateral (key r) ∷ who (key r .party) ∷ [])
 
 unfoldable pub cancelOf : Parties → ℕ → List Record → List Record
-cancelOf who d rs = map (λ r. cond (isDoomed who d r) (recordOf (key r) cancelled (r .amount)) r) rs
+cancelOf who d rs = map (λ r. cond (isToCancel who d r) (recordOf (key r) cancelled (r .amount)) r) rs
 
 -- a cancelled entry of this pair on another day of the same month
 abbrev pub isEarlierOrLater : ℕ → Record → Record → Bool
@@ -85,7 +85,7 @@ detectedParties who = countBelow (lastParty + 1) who
 
 unfoldable pub cancelledEntries : ℕ → ℕ → ℕ → List Record → ℕ
 cancelledEntries R TM d rs =
-    count (isDoomed (firstPass R TM d rs) d) rs + count (isDoomed (secondPass R TM d rs) d) (afterFirst R TM d rs)
+    count (isToCancel (firstPass R TM d rs) d) rs + count (isToCancel (secondPass R TM d rs) d) (afterFirst R TM d rs)
 
 unfoldable pub controlAnswer : List ℕ → ℕ → Controlled
 controlAnswer ws d =

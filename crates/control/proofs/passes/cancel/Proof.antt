@@ -7,7 +7,7 @@ use native.Mathlib.Omega.{arith}
 use lib.ListN.{length, take}
 use Rattle.numbers.specs.Sums.{total, count}
 use Rattle.rules.specs.Words.{countOf, entries}
-use Rattle.rules.specs.Control.{isDoomed}
+use Rattle.rules.specs.Control.{isToCancel}
 use Rattle.rules.proofs.WordLaws.{book-facts}
 use Rattle.book.proofs.BookCode.{Placed, book-long}
 use Rattle.control.specs.Tables.{flagged}
@@ -19,7 +19,7 @@ use Rattle.control.proofs.passes.cancel.Tie as tie
 
 abbrev Inv-loop : tie.InvT-loop
 Inv-loop book₀ day flags last n₀ i₀ book n i =
-    (i ≤ last) × Through (flagged flags) day book₀ i book × (n ≡ count (isDoomed (flagged flags) day) (take i (entries book₀)))
+    (i ≤ last) × Through (flagged flags) day book₀ i book × (n ≡ count (isToCancel (flagged flags) day) (take i (entries book₀)))
 
 abbrev μ-loop : tie.MeasureT-loop
 μ-loop book₀ day flags last n₀ i₀ book n i = last - i
@@ -56,8 +56,8 @@ add-read-at c = search needs
 read-at-requires : tie.Need-read-at-requires Inv-loop μ-loop
 read-at-requires c κs = placed (c .before) .within
 
-is-doomed-requires : tie.Need-is-doomed-requires Inv-loop μ-loop
-is-doomed-requires c κs =
+is-to-cancel-requires : tie.Need-is-to-cancel-requires Inv-loop μ-loop
+is-to-cancel-requires c κs =
     let l = c .before .before .before in
     let s = start l in
     through-party (flagged (s .args .flags .now)) (s .args .day) (s .args .book .now) (s .pre) (l .loop .i) (taken (c .before .before)) (l .loop .book) (l .loop .inv .1) (c .read-at .result) (c .read-at .ensures)
@@ -69,7 +69,7 @@ add-n : tie.Need-add-n Inv-loop μ-loop
 add-n c =
     let l = c .before .before .before .before .before .before .before .before .before in
     let s = start l in
-    omega (arith, l .loop .inv, count-few (isDoomed (flagged (s .args .flags .now)) (s .args .day)) (l .loop .i) (entries (s .args .book .now)), taken (c .before .before .before .before .before .before .before .before), scan-few (s .args .book .now) (s .pre))
+    omega (arith, l .loop .inv, count-few (isToCancel (flagged (s .args .flags .now)) (s .args .day)) (l .loop .i) (entries (s .args .book .now)), taken (c .before .before .before .before .before .before .before .before), scan-few (s .args .book .now) (s .pre))
 
 add-i : tie.Need-add-i Inv-loop μ-loop
 add-i c = search needs
@@ -91,13 +91,13 @@ loop-again c =
     let m = count-more who d (l .loop .i) (entries ws) (rw (book-facts ws (s .pre) .count) t) in
     ⊎-elim
     (λ w.
-    let y = sym (c .before .is-doomed .ensures) ∙ w .0 .taken in (
+    let y = sym (c .before .is-to-cancel .ensures) ∙ w .0 .taken in (
       omega arith,
       w .5 ∙ through-cancelled who d ws (s .pre) (l .loop .i) t (l .loop .book) (l .loop .inv .1) e q y (w .2 .ensures),
       w .6 ∙ ap (λ n. n + 1) (l .loop .inv .2) ∙ sym (m ∙ rw (← r, y)),
     ))
     (λ w.
-    let y = sym (c .before .is-doomed .ensures) ∙ w .0 .left in (
+    let y = sym (c .before .is-to-cancel .ensures) ∙ w .0 .left in (
       omega arith,
       w .1 ∙ through-kept who d ws (s .pre) (l .loop .i) t (l .loop .book) (l .loop .inv .1) e q y,
       w .2 ∙ l .loop .inv .2 ∙ sym (m ∙ rw (← r, y, add-zero)),
@@ -129,7 +129,7 @@ cancel-spec =
     mul-read-at
     add-read-at
     read-at-requires
-    is-doomed-requires
+    is-to-cancel-requires
     set-status-requires
     add-n
     add-i
