@@ -1,7 +1,7 @@
 -- Flags of parties, set one after the other. Assumes nothing.
 use mathlib.Core.Path.{_≡_, refl, sym, ap, _∙_, fun-ext}
 use mathlib.Core.Logic.{inl, inr}
-use mathlib.Core.Bool.{Bool, true, false, cond, _&&_}
+use mathlib.Core.Bool.{Bool, true, false, cond, _&&_, _||_}
 use mathlib.Core.List.{List, [], _∷_}
 use Prim.Native.Nat.{ℕ, zero, suc, _+_, _≤_, _<_}
 use native.Mathlib.Omega.{arith}
@@ -13,7 +13,7 @@ use Rattle.numbers.proofs.TestLaws.{bool-cases}
 use Rattle.rules.specs.Entry.{partyOk}
 use Rattle.rules.specs.Control.{Parties}
 use Rattle.rules.specs.Balance.{dayAhead, balanceOf, isDetected}
-use Rattle.control.specs.Tables.{flagged, noFlags, tallyAt, boughtCell, detectedAmong}
+use Rattle.control.specs.Tables.{flagged, noFlags, withFlag, tallyAt, boughtCell, detectedAmong}
 
 -- the flags of the parties below n are those of a test, and no other is set
 pub record Below (n : ℕ) (f : Parties) (flags : List Bool) : Type 0 where
@@ -32,6 +32,16 @@ no-flag q = no-flag-in 1000 q
 pub length-no-flags : length noFlags ≡ 1000
 unfolding noFlags
 length-no-flags = length-replicate {A = Bool} 1000 false
+
+pub length-flag : (flags : List Bool) (k : ℕ) → length (withFlag flags k) ≡ length flags
+length-flag flags k = length-set flags k true
+
+pub flag-after : (flags : List Bool) (k j : ℕ) → length flags ≡ 1000 → k < 1000 → flagged (withFlag flags k) j ≡ eqb k j || flagged flags j
+flag-after flags k j long h =
+    elim (bool-cases (eqb k j)) [
+      | inl e ↦ let s : j ≡ k = sym (eqb-true k j e) in rw (e, s) (getD-set-same flags k true false (rw long h))
+      | inr e ↦ rw e (getD-set-other flags k j true false (λ s. eqb-false k j e (sym s)))
+    ]
 
 and-false : (b : Bool) → false ≡ b && false
 and-false true = refl

@@ -1,4 +1,4 @@
--- The flags of pairs and of buyers are those of the definition of a repeated pair. Assumes nothing.
+-- The bits of pairs and the flags of buyers are those of the definition of a repeated pair. Assumes nothing.
 use mathlib.Core.Path.{_≡_, refl, sym, ap, ap₂, _∙_, fun-ext}
 use mathlib.Core.Logic.{inl, inr}
 use mathlib.Core.Bool.{Bool, true, false, not, cond, _&&_, _||_, false≢true}
@@ -6,8 +6,7 @@ use mathlib.Core.List.{List, [], _∷_}
 use Prim.Native.Nat.{ℕ, zero, suc, _+_, _-_, _*_, _≤_, _<_}
 use native.Mathlib.Omega.{arith}
 use lib.Dec.{eqb, leb, ltb}
-use lib.ListN.{length, getD, set, replicate, length-set, length-replicate}
-use lib.Seq.{getD-set-same, getD-set-other}
+use lib.ListN.{length, length-replicate}
 use borrow.Author.Tests.{eqb-true, eqb-false, eq-eqb, ne-eqb, leb-true, ltb-true, not-true, not-false}
 use Rattle.numbers.specs.Tests.{every, all, any}
 use Rattle.numbers.proofs.TestLaws.{bool-cases, and-split, and-join, or-cases, every-holds, holds-every}
@@ -15,8 +14,9 @@ use Rattle.calendar.specs.Calendar.{monthOf}
 use Rattle.rules.specs.Entry.{Record, key, legal, fault, statusOk, markOk, isCancelled, isStanding, isMark, isBilateral, dayOk}
 use Rattle.rules.specs.Control.{isEarlierOrLater, isRepeatedBuyer}
 use Rattle.rules.proofs.WordLaws.{Faultless, no-fault}
-use Rattle.control.specs.Tables.{flagged, noFlags, over, isOther, Paired, pairOf, noPairs, marked, pairMarked, pairsOf, isRepeated, buyerMarked, buyersOf}
-use Rattle.control.proofs.FlagLaws.{no-flag, length-no-flags}
+use Rattle.control.specs.Tables.{flagged, noFlags, over, isOther, Paired, pairOf, mostBits, bitAt, withBit, withFlag, noPairs, marked, pairMarked, pairsOf, isRepeated, buyerMarked, buyersOf}
+use Rattle.control.proofs.FlagLaws.{no-flag, length-no-flags, length-flag, flag-after}
+use Rattle.control.proofs.BitLaws.{length-bit, bit-after, no-bit}
 
 -- a legal cancelled entry has a seller and a buyer
 pub paired : (r : Record) → legal r ≡ true → isCancelled r ≡ true → Paired r
@@ -56,43 +56,40 @@ pub other-by-month : (d : ℕ) (r : Record) {m month : ℕ} → month ≡ monthO
 unfolding isOther
 other-by-month d r p h q = rw (not-false (isCancelled r && not (eqb (key r .day) d)) h, p, q)
 
--- flags set where a test holds
-module _ (test : Record → Bool) (place : Record → ℕ) where
-  pub marked-yes : (r : Record) (flags : List Bool) → test r ≡ true → set flags (place r) true ≡ marked test place r flags
+-- places marked where a test holds
+module _ {A : Type 0} (mark : List A → ℕ → List A) (test : Record → Bool) (place : Record → ℕ) where
+  pub marked-yes : (r : Record) (table : List A) → test r ≡ true → mark table (place r) ≡ marked mark test place r table
   unfolding marked
-  marked-yes r flags e = rw e
+  marked-yes r table e = rw e
 
-  pub marked-no : (r : Record) (flags : List Bool) → test r ≡ false → flags ≡ marked test place r flags
+  pub marked-no : (r : Record) (table : List A) → test r ≡ false → table ≡ marked mark test place r table
   unfolding marked
-  marked-no r flags e = rw e
+  marked-no r table e = rw e
 
-  length-marked : (r : Record) (flags : List Bool) → length (marked test place r flags) ≡ length flags
-  unfolding marked
-  length-marked r flags = elim (bool-cases (test r)) [ inl e ↦ rw e (length-set flags (place r) true) | inr e ↦ rw e ]
-
-  module _ (n : ℕ) (in-range : (r : Record) → legal r ≡ true → test r ≡ true → place r < n) where
-    marked-flag : (r : Record) (flags : List Bool) (j : ℕ) → legal r ≡ true → length flags ≡ n →
-        getD (marked test place r flags) j false ≡ (test r && eqb (place r) j) || getD flags j false
+  -- n places in a table of m elements
+  module _ (isMarked : List A → ℕ → Bool) (m n : ℕ)
+      (long : (table : List A) (k : ℕ) → length (mark table k) ≡ length table)
+      (after : (table : List A) (k j : ℕ) → length table ≡ m → k < n → isMarked (mark table k) j ≡ eqb k j || isMarked table j)
+      (in-range : (r : Record) → legal r ≡ true → test r ≡ true → place r < n) where
+    length-marked : (r : Record) (table : List A) → length (marked mark test place r table) ≡ length table
     unfolding marked
-    marked-flag r flags j l long =
-        elim (bool-cases (test r)) [
-          | inl e ↦
-              elim (bool-cases (eqb (place r) j)) [
-                | inl q ↦ let s : j ≡ place r = sym (eqb-true (place r) j q) in rw (e, q, s) (getD-set-same flags (place r) true false (rw long (in-range r l e)))
-                | inr q ↦ rw (e, q) (getD-set-other flags (place r) j true false (λ s. eqb-false (place r) j q (sym s)))
-              ]
-          | inr e ↦ rw e
-        ]
+    length-marked r table = elim (bool-cases (test r)) [ inl e ↦ rw e (long table (place r)) | inr e ↦ rw e ]
 
-    pub over-flag : (rs : List Record) (flags : List Bool) (j : ℕ) → all legal rs ≡ true → length flags ≡ n →
-        getD (over (marked test place) rs flags) j false ≡ any (λ r. test r && eqb (place r) j) rs || getD flags j false
+    marked-one : (r : Record) (table : List A) (j : ℕ) → legal r ≡ true → length table ≡ m →
+        isMarked (marked mark test place r table) j ≡ (test r && eqb (place r) j) || isMarked table j
+    unfolding marked
+    marked-one r table j l q =
+        elim (bool-cases (test r)) [ inl e ↦ rw e (after table (place r) j q (in-range r l e)) | inr e ↦ rw e ]
+
+    pub over-marked : (rs : List Record) (table : List A) (j : ℕ) → all legal rs ≡ true → length table ≡ m →
+        isMarked (over (marked mark test place) rs table) j ≡ any (λ r. test r && eqb (place r) j) rs || isMarked table j
     unfolding over all any
-    over-flag [] flags j l long = refl
-    over-flag (r ∷ rs) flags j l long =
+    over-marked [] table j l q = refl
+    over-marked (r ∷ rs) table j l q =
         let s = and-split (legal r) (all legal rs) l in
-        over-flag rs (marked test place r flags) j (s .1) (length-marked r flags ∙ long)
-        ∙ ap (λ b. any (λ x. test x && eqb (place x) j) rs || b) (marked-flag r flags j (s .0) long)
-        ∙ or-turn (any (λ x. test x && eqb (place x) j) rs) (test r && eqb (place r) j) (getD flags j false)
+        over-marked rs (marked mark test place r table) j (s .1) (length-marked r table ∙ q)
+        ∙ ap (λ b. any (λ x. test x && eqb (place x) j) rs || b) (marked-one r table j (s .0) q)
+        ∙ or-turn (any (λ x. test x && eqb (place x) j) rs) (test r && eqb (place r) j) (isMarked table j)
       where
         or-turn : (a b c : Bool) → a || (b || c) ≡ (b || a) || c
         or-turn true true c = refl
@@ -109,23 +106,18 @@ or-none : (a b : Bool) → b ≡ false → a || b ≡ a
 or-none true b e = refl
 or-none false b e = e
 
-no-pair-in : (n j : ℕ) → getD (replicate n false) j false ≡ false
-no-pair-in zero j = refl
-no-pair-in (suc n) zero = refl
-no-pair-in (suc n) (suc j) = no-pair-in n j
-
-no-pair : (j : ℕ) → getD noPairs j false ≡ false
+no-pair : (j : ℕ) → bitAt noPairs j ≡ false
 unfolding noPairs
-no-pair j = no-pair-in 998001 j
+no-pair j = no-bit 16000 j
 
-length-no-pairs : length noPairs ≡ 998001
+length-no-pairs : length noPairs ≡ 16000
 unfolding noPairs
-length-no-pairs = length-replicate {A = Bool} 998001 false
+length-no-pairs = length-replicate {A = ℕ} 16000 0
 
-pub pair-in : (r : Record) {k : ℕ} → Paired r → k ≡ pairOf r → k < 998001
+pub pair-in : (r : Record) {k : ℕ} → Paired r → k ≡ pairOf r → k < mostBits
 pair-in r p q = omega arith
 
--- a flag of its own for each pair
+-- a bit of its own for each pair
 same-pair : (r s : Record) → Paired r → Paired s → eqb (pairOf s) (pairOf r) ≡ eqb (key s .party) (key r .party) && eqb (key s .counterparty) (key r .counterparty)
 same-pair r s p q =
     elim (bool-cases (eqb (key s .party) (key r .party) && eqb (key s .counterparty) (key r .counterparty))) [
@@ -142,36 +134,36 @@ same-pair r s p q =
 
 -- one entry, as the code looks at it
 module _ (d : ℕ) (r : Record) where
-  pub pair-marked : (flags : List Bool) {k : ℕ} → k ≡ pairOf r → isOther d r ≡ true → set flags k true ≡ pairMarked d r flags
+  pub pair-marked : (pairs : List ℕ) {k : ℕ} → k ≡ pairOf r → isOther d r ≡ true → withBit pairs k ≡ pairMarked d r pairs
   unfolding pairMarked
-  pair-marked flags q e = rw q (marked-yes (isOther d) pairOf r flags e)
+  pair-marked pairs q e = rw q (marked-yes withBit (isOther d) pairOf r pairs e)
 
-  pub pair-kept : (flags : List Bool) → isOther d r ≡ false → flags ≡ pairMarked d r flags
+  pub pair-kept : (pairs : List ℕ) → isOther d r ≡ false → pairs ≡ pairMarked d r pairs
   unfolding pairMarked
-  pair-kept flags e = marked-no (isOther d) pairOf r flags e
+  pair-kept pairs e = marked-no withBit (isOther d) pairOf r pairs e
 
   pub of-day-cancelled : not (isCancelled r && eqb (key r .day) d) ≡ false → isCancelled r ≡ true
   of-day-cancelled h = and-split (isCancelled r) (eqb (key r .day) d) (not-false _ h) .0
 
-  module _ (pairs flags : List Bool) where
+  module _ (pairs : List ℕ) (flags : List Bool) where
     pub buyer-not : not (isCancelled r && eqb (key r .day) d) ≡ true → flags ≡ buyerMarked d pairs r flags
     unfolding buyerMarked isRepeated
-    buyer-not h = marked-no (isRepeated d pairs) (λ x. key x .counterparty) r flags (rw (not-true (isCancelled r && eqb (key r .day) d) h))
+    buyer-not h = marked-no withFlag (isRepeated d pairs) (λ x. key x .counterparty) r flags (rw (not-true (isCancelled r && eqb (key r .day) d) h))
 
-    pub buyer-marked : not (isCancelled r && eqb (key r .day) d) ≡ false → {k : ℕ} → k ≡ pairOf r → getD pairs k false ≡ true → set flags (key r .counterparty) true ≡ buyerMarked d pairs r flags
+    pub buyer-marked : not (isCancelled r && eqb (key r .day) d) ≡ false → {k : ℕ} → k ≡ pairOf r → bitAt pairs k ≡ true → withFlag flags (key r .counterparty) ≡ buyerMarked d pairs r flags
     unfolding buyerMarked isRepeated
-    buyer-marked h q e = marked-yes (isRepeated d pairs) (λ x. key x .counterparty) r flags (rw (not-false (isCancelled r && eqb (key r .day) d) h, ← q) e)
+    buyer-marked h q e = marked-yes withFlag (isRepeated d pairs) (λ x. key x .counterparty) r flags (rw (not-false (isCancelled r && eqb (key r .day) d) h, ← q) e)
 
-    pub buyer-kept : not (isCancelled r && eqb (key r .day) d) ≡ false → {k : ℕ} → k ≡ pairOf r → getD pairs k false ≡ false → flags ≡ buyerMarked d pairs r flags
+    pub buyer-kept : not (isCancelled r && eqb (key r .day) d) ≡ false → {k : ℕ} → k ≡ pairOf r → bitAt pairs k ≡ false → flags ≡ buyerMarked d pairs r flags
     unfolding buyerMarked isRepeated
-    buyer-kept h q e = marked-no (isRepeated d pairs) (λ x. key x .counterparty) r flags (rw (not-false (isCancelled r && eqb (key r .day) d) h, ← q) e)
+    buyer-kept h q e = marked-no withFlag (isRepeated d pairs) (λ x. key x .counterparty) r flags (rw (not-false (isCancelled r && eqb (key r .day) d) h, ← q) e)
 
 module _ (d : ℕ) (rs : List Record) (ok : all legal rs ≡ true) where
   -- the pair of a cancelled entry is marked where it has a cancelled entry of another day of the month
-  pub pair-flag : (r : Record) → Paired r → getD (pairsOf d rs) (pairOf r) false ≡ any (isEarlierOrLater d r) rs
+  pub pair-bit : (r : Record) → Paired r → bitAt (pairsOf d rs) (pairOf r) ≡ any (isEarlierOrLater d r) rs
   unfolding pairsOf pairMarked isOther
-  pair-flag r p =
-      over-flag (isOther d) pairOf 998001 (λ s l e. pair-in s (paired s l (other-cancelled d s e)) refl) rs noPairs (pairOf r) ok length-no-pairs
+  pair-bit r p =
+      over-marked withBit (isOther d) pairOf bitAt 16000 mostBits length-bit bit-after (λ s l e. pair-in s (paired s l (other-cancelled d s e)) refl) rs noPairs (pairOf r) ok length-no-pairs
       ∙ or-none _ _ (no-pair (pairOf r))
       ∙ any-same legal (λ s. isOther d s && eqb (pairOf s) (pairOf r)) (isEarlierOrLater d r) same rs ok
     where
@@ -204,7 +196,7 @@ module _ (d : ℕ) (rs : List Record) (ok : all legal rs ≡ true) where
   repeated-buyer : (r : Record) → legal r ≡ true → isRepeated d (pairsOf d rs) r ≡ true → key r .counterparty < 1000
   unfolding isRepeated
   repeated-buyer r l e =
-      let c = every-holds (isCancelled r ∷ eqb (key r .day) d ∷ getD (pairsOf d rs) (pairOf r) false ∷ []) e .0 in
+      let c = every-holds (isCancelled r ∷ eqb (key r .day) d ∷ bitAt (pairsOf d rs) (pairOf r) ∷ []) e .0 in
       let p = paired r l c in
       omega arith
 
@@ -224,12 +216,12 @@ module _ (d : ℕ) (rs : List Record) (ok : all legal rs ≡ true) where
           isRepeated d (pairsOf d rs) r && eqb (key r .counterparty) p ≡ every (isCancelled r ∷ eqb (key r .day) d ∷ eqb (key r .counterparty) p ∷ any (isEarlierOrLater d r) rs ∷ [])
       same p r l =
           elim (bool-cases (isCancelled r)) [
-            | inl e ↦ rw (pair-flag r (paired r l e)) (order (isCancelled r) (eqb (key r .day) d) (any (isEarlierOrLater d r) rs) (eqb (key r .counterparty) p))
+            | inl e ↦ rw (pair-bit r (paired r l e)) (order (isCancelled r) (eqb (key r .day) d) (any (isEarlierOrLater d r) rs) (eqb (key r .counterparty) p))
             | inr e ↦ rw e
           ]
 
       at : (p : ℕ) → flagged (buyersOf d (pairsOf d rs) rs) p ≡ isRepeatedBuyer d rs p
       at p =
-          over-flag (isRepeated d (pairsOf d rs)) (λ r. key r .counterparty) 1000 repeated-buyer rs noFlags p ok length-no-flags
+          over-marked withFlag (isRepeated d (pairsOf d rs)) (λ r. key r .counterparty) flagged 1000 1000 length-flag flag-after repeated-buyer rs noFlags p ok length-no-flags
           ∙ or-none _ _ (no-flag p)
           ∙ any-same legal _ _ (same p) rs ok

@@ -1,9 +1,10 @@
--- What the scans of a control make of the entries: a table of sums, flags of parties and flags of pairs.
+-- What the scans of a control make of the entries: a table of sums, flags of parties and bits of pairs.
 -- Only the contracts of internal functions cite these; the laws tie them to rules/specs/Control.
 use mathlib.Core.Path.{_≡_}
 use mathlib.Core.Bool.{Bool, true, false, not, cond, _&&_}
 use mathlib.Core.List.{List, [], _∷_}
-use Prim.Native.Nat.{ℕ, _+_, _-_, _*_, _≤_}
+use Prim.Native.Nat.{ℕ, _+_, _-_, _*_, _/_, _%_, _^_, _≤_}
+use lib.Bits.{bitOr}
 use lib.Dec.{eqb}
 use lib.ListN.{length, getD, set, take, drop, replicate}
 use Rattle.numbers.specs.Sums.{count}
@@ -98,31 +99,45 @@ pub record Paired (r : Record) : Type 0 where
   pub buyer-above : 1 ≤ key r .counterparty
   pub buyer : key r .counterparty ≤ lastParty
 
--- the flag of a pair: 999 buyers a seller
+-- the bit of a pair: 1,024 bits a seller, one a buyer
 abbrev pub pairOf : Record → ℕ
-pairOf r = 999 * key r .party + key r .counterparty - 1000
+pairOf r = 1024 * key r .party + key r .counterparty
 
-unfoldable pub noPairs : List Bool
-noPairs = replicate 998001 false
+-- bits, 64 to a word
+abbrev pub mostBits : ℕ
+mostBits = 1024000
 
--- a flag is set where a test holds
-unfoldable pub marked : (Record → Bool) → (Record → ℕ) → Record → List Bool → List Bool
-marked test place r flags = cond (test r) (set flags (place r) true) flags
+unfoldable pub bitAt : List ℕ → ℕ → Bool
+bitAt words k = eqb (getD words (k / 64) 0 / 2 ^ (k % 64) % 2) 1
 
-unfoldable pub pairMarked : ℕ → Record → List Bool → List Bool
-pairMarked d = marked (isOther d) pairOf
+unfoldable pub withBit : List ℕ → ℕ → List ℕ
+withBit words k = set words (k / 64) (bitOr (getD words (k / 64) 0) (2 ^ (k % 64)))
 
-unfoldable pub pairsOf : ℕ → List Record → List Bool
+abbrev pub withFlag : List Bool → ℕ → List Bool
+withFlag flags k = set flags k true
+
+-- the place of an entry is marked where a test holds
+module _ {A : Type 0} where
+  unfoldable pub marked : (List A → ℕ → List A) → (Record → Bool) → (Record → ℕ) → Record → List A → List A
+  marked mark test place r table = cond (test r) (mark table (place r)) table
+
+unfoldable pub noPairs : List ℕ
+noPairs = replicate 16000 0
+
+unfoldable pub pairMarked : ℕ → Record → List ℕ → List ℕ
+pairMarked d = marked withBit (isOther d) pairOf
+
+unfoldable pub pairsOf : ℕ → List Record → List ℕ
 pairsOf d rs = over (pairMarked d) rs noPairs
 
--- a cancelled entry of the day whose pair is flagged
-unfoldable pub isRepeated : ℕ → List Bool → Record → Bool
-isRepeated d pairs r = every (isCancelled r ∷ eqb (key r .day) d ∷ getD pairs (pairOf r) false ∷ [])
+-- a cancelled entry of the day whose pair is marked
+unfoldable pub isRepeated : ℕ → List ℕ → Record → Bool
+isRepeated d pairs r = every (isCancelled r ∷ eqb (key r .day) d ∷ bitAt pairs (pairOf r) ∷ [])
 
-unfoldable pub buyerMarked : ℕ → List Bool → Record → List Bool → List Bool
-buyerMarked d pairs = marked (isRepeated d pairs) (λ r. key r .counterparty)
+unfoldable pub buyerMarked : ℕ → List ℕ → Record → List Bool → List Bool
+buyerMarked d pairs = marked withFlag (isRepeated d pairs) (λ r. key r .counterparty)
 
-unfoldable pub buyersOf : ℕ → List Bool → List Record → List Bool
+unfoldable pub buyersOf : ℕ → List ℕ → List Record → List Bool
 buyersOf d pairs rs = over (buyerMarked d pairs) rs noFlags
 
 -- the words after a pass, and its counts

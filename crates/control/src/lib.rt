@@ -6,6 +6,7 @@ use book::words;
 use rules::Controlled;
 use sums::NUMBERS;
 
+mod bits;
 mod pairs;
 mod passes;
 mod sums;

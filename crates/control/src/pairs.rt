@@ -6,14 +6,11 @@ ghost use Rattle.rules.specs.Entry.{legal};
 ghost use Rattle.rules.specs.Words.{isBook, entries};
 ghost use Rattle.rules.specs.Control.{isRepeatedBuyer};
 ghost use Rattle.control.specs.Tables.{flagged, noFlags, recordRead, noPairs, isOther, Paired, pairOf, pairMarked, pairsOf, buyerMarked, buyersOf};
+use crate::bits;
+use crate::bits::Bits;
 use crate::sums::Flags;
 use book::words;
 use rules::EntryRead;
-
-// A flag for each pair of a seller and a buyer, 1 to 999.
-const PAIRS: usize = 998001;
-
-type Pairs = [bool; PAIRS];
 
 // The billing period of a day.
 fn period_of(day: u32) -> u32
@@ -33,27 +30,27 @@ fn is_other(e: EntryRead, day: u32, period: u32) -> bool
     period_of(e.day) == period
 }
 
-// The number of an entry's pair (seller, buyer): 999 buyers a seller.
+// The bit of an entry's pair: 1,024 bits a seller, one a buyer.
 fn pair_of(e: EntryRead) -> usize
     requires { ⌜ Paired (recordRead e) ⌝ }
     ensures { λ r. ⌜ r ≡ pairOf (recordRead e) ⌝ }
 {
-    (999 * e.party + e.counterparty - 1000) as usize
+    (1024 * e.party + e.counterparty) as usize
 }
 
-fn mark_pair(pairs: &mut Pairs, e: EntryRead, day: u32, period: u32)
+fn mark_pair(pairs: &mut Bits, e: EntryRead, day: u32, period: u32)
     requires { ⌜ period ≡ monthOf day ⌝ }
     requires { ⌜ legal (recordRead e) ≡ true ⌝ }
     ensures { λ _. ⌜ now (pairs .exit) ≡ pairMarked day (recordRead e) (now (pairs .entry)) ⌝ }
 {
     if is_other(e, day, period) {
         let pair = pair_of(e);
-        pairs[pair] = true;
+        bits::set_bit(pairs, pair);
     }
 }
 
 // Marks the pairs with a cancelled entry of another day of the billing period.
-fn mark_pairs(book: &[u32], day: u32, pairs: &mut Pairs)
+fn mark_pairs(book: &[u32], day: u32, pairs: &mut Bits)
     requires { ⌜ isBook (now book) ≡ true ⌝ }
     requires { ⌜ now pairs ≡ noPairs ⌝ }
     ensures { λ _. ⌜ now (pairs .exit) ≡ pairsOf day (entries (now (book .entry))) ⌝ }
@@ -69,7 +66,7 @@ fn mark_pairs(book: &[u32], day: u32, pairs: &mut Pairs)
 }
 
 // Flags the buyer of a cancelled entry of the day whose pair is marked.
-fn mark_buyer(buyers: &mut Flags, e: EntryRead, day: u32, pairs: &Pairs)
+fn mark_buyer(buyers: &mut Flags, e: EntryRead, day: u32, pairs: &Bits)
     requires { ⌜ legal (recordRead e) ≡ true ⌝ }
     ensures { λ _. ⌜ now (buyers .exit) ≡ buyerMarked day (now (pairs .entry)) (recordRead e) (now (buyers .entry)) ⌝ }
 {
@@ -77,12 +74,12 @@ fn mark_buyer(buyers: &mut Flags, e: EntryRead, day: u32, pairs: &Pairs)
         return;
     }
     let pair = pair_of(e);
-    if pairs[pair] {
+    if bits::bit_at(pairs, pair) {
         buyers[e.counterparty as usize] = true;
     }
 }
 
-fn mark_buyers(book: &[u32], day: u32, pairs: &Pairs, buyers: &mut Flags)
+fn mark_buyers(book: &[u32], day: u32, pairs: &Bits, buyers: &mut Flags)
     requires { ⌜ isBook (now book) ≡ true ⌝ }
     requires { ⌜ now buyers ≡ noFlags ⌝ }
     ensures { λ _. ⌜ now (buyers .exit) ≡ buyersOf day (now (pairs .entry)) (entries (now (book .entry))) ⌝ }
@@ -102,7 +99,7 @@ pub fn flag_buyers(book: &[u32], day: u32, buyers: &mut Flags)
     requires { ⌜ now buyers ≡ noFlags ⌝ }
     ensures { λ _. ⌜ flagged (now (buyers .exit)) ≡ isRepeatedBuyer day (entries (now (book .entry))) ⌝ }
 {
-    let mut pairs = [false; PAIRS];
+    let mut pairs = [0u64; bits::WORDS];
     mark_pairs(book, day, &mut pairs);
     mark_buyers(book, day, &pairs, buyers);
 }

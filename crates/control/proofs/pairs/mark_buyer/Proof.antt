@@ -1,4 +1,5 @@
 -- `control::pairs::mark_buyer` meets its contract. Assumes nothing.
+use mathlib.Core.Path.{sym, _∙_}
 use native.Mathlib.Omega.{arith}
 use Rattle.control.specs.Tables.{recordRead, Paired}
 use Rattle.control.proofs.PairLaws.{paired, of-day-cancelled, pair-in, buyer-not, buyer-marked, buyer-kept}
@@ -17,8 +18,8 @@ returns c = let a = c .before .before .before .args in buyer-not (a .day) (recor
 pair-of-requires : tie.Need-pair-of-requires
 pair-of-requires c κs = pair c
 
-element-copy-out-if2 : tie.Need-element-copy-out-if2
-element-copy-out-if2 c = pair-in (recordRead (c .before .before .before .before .args .e)) (pair (c .before)) (c .pair-of .ensures)
+bit-at-requires : tie.Need-bit-at-requires
+bit-at-requires c κs = pair-in (recordRead (c .before .before .before .before .args .e)) (pair (c .before)) (c .pair-of .ensures)
 
 cast-buyers : tie.Need-cast-buyers
 cast-buyers c = search needs
@@ -30,13 +31,13 @@ returns-2 : tie.Need-returns-2
 returns-2 c =
     let e = c .before .before .before .before in
     let a = e .before .before .before .args in
-    buyer-marked (a .day) (recordRead (a .e)) (a .pairs .now) (a .buyers .now) (e .if1 .left) (c .before .before .before .pair-of .ensures) (c .before .if2 .taken)
+    buyer-marked (a .day) (recordRead (a .e)) (a .pairs .now) (a .buyers .now) (e .if1 .left) (c .before .before .before .pair-of .ensures) (sym (c .before .before .bit-at .ensures) ∙ c .before .if2 .taken)
 
 returns-3 : tie.Need-returns-3
 returns-3 c =
     let e = c .before .before .before in
     let a = e .before .before .before .args in
-    buyer-kept (a .day) (recordRead (a .e)) (a .pairs .now) (a .buyers .now) (e .if1 .left) (c .before .before .pair-of .ensures) (c .if2 .left)
+    buyer-kept (a .day) (recordRead (a .e)) (a .pairs .now) (a .buyers .now) (e .if1 .left) (c .before .before .pair-of .ensures) (sym (c .before .bit-at .ensures) ∙ c .if2 .left)
 
 pub mark-buyer-spec : {M : Type 1} → statement M
 mark-buyer-spec =
@@ -44,7 +45,7 @@ mark-buyer-spec =
     (tie.spec
     returns
     pair-of-requires
-    element-copy-out-if2
+    bit-at-requires
     cast-buyers
     element-write-buyers
     returns-2

@@ -21,15 +21,18 @@ is-other-requires c κs = c .pre .0
 pair-of-requires : tie.Need-pair-of-requires
 pair-of-requires c κs = pair c
 
-element-write-pairs : tie.Need-element-write-pairs
-element-write-pairs c = pair-in (recordRead (c .before .before .before .args .e)) (pair (c .before)) (c .pair-of .ensures)
+set-bit-requires : tie.Need-set-bit-requires
+set-bit-requires c κs = pair-in (recordRead (c .before .before .before .before .args .e)) (pair (c .before .before)) (c .before .pair-of .ensures)
 
 returns : tie.Need-returns
-returns c = let s = c .before .before .before in pair-marked (s .args .day) (recordRead (s .args .e)) (s .args .pairs .now) (c .pair-of .ensures) (yes (c .before))
+returns c =
+    let t = c .before .before .before in
+    let a = t .before .before .args in
+    c .set-bit .ensures ∙ pair-marked (a .day) (recordRead (a .e)) (a .pairs .now) (c .before .before .pair-of .ensures) (yes t)
 
 returns-2 : tie.Need-returns-2
 returns-2 c = let s = c .before .before in pair-kept (s .args .day) (recordRead (s .args .e)) (s .args .pairs .now) (sym (c .before .is-other .ensures) ∙ c .if1 .left)
 
 pub mark-pair-spec : {M : Type 1} → statement M
 mark-pair-spec =
-    tie.close (tie.spec is-other-requires pair-of-requires element-write-pairs returns returns-2)
+    tie.close (tie.spec is-other-requires pair-of-requires set-bit-requires returns returns-2)
