@@ -1,9 +1,9 @@
 -- Bits of a table, 64 to a word: what is read after a bit is set. Assumes nothing.
-use mathlib.Core.Path.{_≡_, refl, sym, ap, ap₂, _∙_}
+use mathlib.Core.Path.{_≡_, refl, sym, ap, _∙_}
 use mathlib.Core.Logic.{inl, inr}
 use mathlib.Core.Bool.{Bool, true, false, _||_}
 use mathlib.Core.List.{List}
-use Prim.Native.Nat.{ℕ, zero, suc, _+_, _-_, _*_, _/_, _%_, _^_, _≤_, _<_, max}
+use Prim.Native.Nat.{ℕ, zero, suc, _+_, _-_, _*_, _/_, _%_, _^_, _<_, max}
 use native.Mathlib.Nat.{div-eq-of-lt, mul-mod-left, max-zero, pow-suc, one-mul}
 use native.Mathlib.Omega.{arith}
 use lib.Bits.{bitOr, or-step, or-shr}
@@ -15,7 +15,7 @@ use borrow.Author.Tests.{eqb-true, eqb-false, eq-eqb, ne-eqb, leb-true, leb-fals
 use Rattle.numbers.proofs.TestLaws.{bool-cases}
 use Rattle.control.specs.Tables.{mostBits, bitAt, withBit}
 
--- a bit of a number
+-- whether bit n of a number is set
 abbrev odd : ℕ → ℕ → Bool
 odd a n = eqb (a / 2 ^ n % 2) 1
 

@@ -103,7 +103,7 @@ pub record Paired (r : Record) : Type 0 where
 abbrev pub pairOf : Record → ℕ
 pairOf r = 1024 * key r .party + key r .counterparty
 
--- bits, 64 to a word
+-- a table of bits, 16,000 words of 64
 abbrev pub mostBits : ℕ
 mostBits = 1024000
 
