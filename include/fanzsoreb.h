@@ -13,8 +13,8 @@
  * Units: volumes in kWh, money in kurus, prices in kurus per MWh, balances in hundredths of a kWh, signed.
  * A day is a number: 0 is 2000-01-01, 36,524 is 2099-12-31. Parties are 1 to 999.
  *
- * Stack: a call on a book needs up to 64 KiB for the book's words; control 200 KiB more, for 17 sums a party;
- * the month step 200 KiB for its tables. Calls on different books may run at the same time.
+ * Stack: a call on a book needs up to 64 KiB for the book's words; control 264 KiB more, for 17 sums a party
+ * and a bit a pair; the month step 200 KiB for its tables. Calls on different books may run at the same time.
  */
 #ifndef FANZSOREB_H
 #define FANZSOREB_H
