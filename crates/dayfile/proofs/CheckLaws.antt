@@ -14,11 +14,11 @@ use Rattle.numbers.proofs.TestLaws.{bool-cases}
 use Rattle.rules.specs.Entry.{Record, key, standing, recordOf}
 use Rattle.rules.specs.Book.{isMarkOf}
 use Rattle.rules.specs.DayFile.{Item, line, emptyBlock, linesOf, headItem}
-use Rattle.dayfile.specs.declared.Cursor.{Cursor}
-use Rattle.dayfile.specs.declared.Line.{Line}
-use Rattle.dayfile.specs.Walk.{isMore, headAt, lineAt, lineItem, itemsAt, pastStep, leftItems}
+use Rattle.fileform.specs.declared.Cursor.{Cursor}
+use Rattle.fileform.specs.declared.Line.{Line}
+use Rattle.fileform.specs.Walk.{isMore, headAt, lineAt, lineItem, itemsAt, pastStep, leftItems}
 use Rattle.dayfile.specs.Check.{causeBy, firstCause, linesAt, scanned}
-use Rattle.dayfile.proofs.WalkLaws.{items-step, some}
+use Rattle.fileform.proofs.WalkLaws.{items-step, some}
 use Rattle.rules.specs.declared.FileRead.{FileRead}
 
 -- one entry's mark in the table

@@ -1,8 +1,6 @@
--- Laws of a walk of a file, and of posting what it finds; the folders hold the proof of a function each.
-pub mod WalkLaws
+-- Laws of checking a file, of posting what it holds and of what it names; the folders hold the proof of a function each.
 pub mod CheckLaws
 pub mod AnswerLaws
 pub mod PostLaws
 pub mod FileLaws
 pub mod NameLaws
-pub mod WriteLaws

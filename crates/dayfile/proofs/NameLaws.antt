@@ -18,10 +18,10 @@ use Rattle.rules.specs.Entry.{Record, fault, partyOk, dayOk}
 use Rattle.rules.specs.Words.{entries}
 use Rattle.rules.specs.DayFile.{Item, line, emptyBlock, items, itemCause, itemNames, fileCause, fileNames}
 use Rattle.rules.proofs.WordLaws.{no-fault, within-true}
-use Rattle.dayfile.specs.declared.Cursor.{Cursor}
-use Rattle.dayfile.specs.Walk.{isMore, itemsAt, pastStep, leftItems}
+use Rattle.fileform.specs.declared.Cursor.{Cursor}
+use Rattle.fileform.specs.Walk.{isMore, itemsAt, pastStep, leftItems}
 use Rattle.dayfile.specs.Names.{isNamed, itemHas, namesParty}
-use Rattle.dayfile.proofs.WalkLaws.{items-step}
+use Rattle.fileform.proofs.WalkLaws.{items-step}
 use Rattle.dayfile.proofs.FileLaws.{file-passes}
 
 -- one mark

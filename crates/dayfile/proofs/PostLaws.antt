@@ -18,11 +18,11 @@ use Rattle.rules.specs.Book.{storedAt}
 use Rattle.rules.specs.DayFile.{Item, line, emptyBlock, headItem, itemCause, linesOf}
 use Rattle.rules.proofs.WordLaws.{book-facts, book-laid, laid-used, encode-all-append, room-words}
 use Rattle.rules.proofs.BookLaws.{stored-words, new-legal}
-use Rattle.dayfile.specs.declared.Cursor.{Cursor}
-use Rattle.dayfile.specs.declared.Line.{Line}
-use Rattle.dayfile.specs.Walk.{isMore, headAt, lineAt, lineItem, itemsAt, pastStep, leftItems}
+use Rattle.fileform.specs.declared.Cursor.{Cursor}
+use Rattle.fileform.specs.declared.Line.{Line}
+use Rattle.fileform.specs.Walk.{isMore, headAt, lineAt, lineItem, itemsAt, pastStep, leftItems}
 use Rattle.dayfile.specs.Check.{linesAt, storedFrom}
-use Rattle.dayfile.proofs.WalkLaws.{items-step}
+use Rattle.fileform.proofs.WalkLaws.{items-step}
 use Rattle.dayfile.proofs.CheckLaws.{lines-append, lines-held, line-held}
 
 -- one head or line

@@ -1,6 +1,3 @@
--- What the code of this crate walks, checks and writes by itself, put together from the definitions of `rules`.
-pub mod Walk
-pub mod Read
+-- What the code of this crate checks and names by itself, put together from the definitions of `rules`.
 pub mod Check
 pub mod Names
-pub mod Write

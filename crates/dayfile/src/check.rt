@@ -8,15 +8,15 @@ ghost use Rattle.rules.specs.Entry.{keyOf};
 ghost use Rattle.rules.specs.Words.{decode, entryOk, isBook, entries};
 ghost use Rattle.rules.specs.Book.{isMarkOf, isClosed};
 ghost use Rattle.rules.specs.DayFile.{line, emptyBlock, itemCause, items, mostBytes, isFile, fileAnswer};
-ghost use Rattle.dayfile.specs.Walk.{isMore, itemsAt};
+ghost use Rattle.fileform.specs.Walk.{isMore, itemsAt};
 ghost use Rattle.dayfile.specs.Check.{tableDays, causeBy, firstCause, linesAt, scanned};
-use crate::Cursor;
-use crate::walk;
 use book::refusals::BAD_DAY;
 use book::refusals::BAD_PARTY;
 use book::refusals::DAY_CLOSED;
 use book::refusals::NO_ROOM;
 use book::words::MARK;
+use fileform::Cursor;
+use fileform::walk;
 use rules::FileRead;
 
 // Marks the day of a mark as closed.

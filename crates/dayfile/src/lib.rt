@@ -4,35 +4,18 @@ ghost use Rattle.rules.specs.DayFile.{isFile, fileAnswer, fileWords};
 ghost use Rattle.dayfile.specs.Check.{nonePosted};
 use book::refusals::NOT_A_BOOK;
 use book::words::COUNT_WORD;
+use fileform::walk;
 use rules::FileRead;
 
-pub mod check;
+mod check;
 pub mod names;
-pub mod post;
-pub mod reader;
-pub mod walk;
-pub mod writer;
+mod post;
 
 // A file is refused by its length, kinds, spare or status bits, or ending.
 pub const BAD_FILE: u32 = 2;
 
 // A file has no more bytes than this.
 pub const MOST_BYTES: usize = 65536;
-
-// Where a walk of a file stands: the byte it has come to, the lines of the block still to come, and the block's party and day.
-pub struct Cursor {
-    pub at: usize,
-    pub left: u32,
-    pub party: u32,
-    pub day: u32,
-}
-
-// The figures of one line.
-pub struct Line {
-    pub entry_type: u32,
-    pub counterparty: u32,
-    pub amount: u64,
-}
 
 // Whether the bytes are a day file: their length, kinds, spare and status bits, and where they end.
 pub fn is_file(file: &[u8]) -> bool

@@ -5,10 +5,10 @@ ghost use Prim.Native.Nat.{ℕ, _<_};
 ghost use lib.ListN.{length, getD, set};
 ghost use Rattle.numbers.specs.Tests.{any};
 ghost use Rattle.rules.specs.DayFile.{itemNames, fileNames};
-ghost use Rattle.dayfile.specs.Walk.{isMore, itemsAt};
+ghost use Rattle.fileform.specs.Walk.{isMore, itemsAt};
 ghost use Rattle.dayfile.specs.Names.{isNamed, itemHas, namesParty};
-use crate::Cursor;
-use crate::walk;
+use fileform::Cursor;
+use fileform::walk;
 
 fn is_named(first: u32, second: u32, party: u32) -> bool
     ensures { λ r. ⌜ r ≡ isNamed first second party ⌝ }

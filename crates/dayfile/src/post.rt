@@ -6,10 +6,10 @@ ghost use lib.ListN.{length};
 ghost use Rattle.numbers.specs.Tests.{all};
 ghost use Rattle.rules.specs.Entry.{legal};
 ghost use Rattle.rules.specs.DayFile.{items, linesOf};
-ghost use Rattle.dayfile.specs.Walk.{isMore, itemsAt};
+ghost use Rattle.fileform.specs.Walk.{isMore, itemsAt};
 ghost use Rattle.dayfile.specs.Check.{linesAt, storedFrom};
-use crate::Cursor;
-use crate::walk;
+use fileform::Cursor;
+use fileform::walk;
 
 // Stores the next line, if there is one, and gives the place after it.
 fn store_at(book: &mut [u32], place: usize, file: &[u8], c: Cursor) -> usize

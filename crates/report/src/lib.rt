@@ -10,7 +10,7 @@ ghost use Rattle.report.specs.Text.{Wrote};
 ghost use Rattle.report.specs.Report.{header, refusal, lineText, lineOf, eachFrom, partyLines, allLines, reportInto, reportOn};
 
 pub mod input;
-pub mod text;
+mod text;
 
 fn put_line(out: &mut [u8], at: usize, party: u32, day: u32, ahead: i64, due: i64) -> usize
     requires { ⌜ at ≤ length (now out) ⌝ }

@@ -1,8 +1,8 @@
 -- `dayfile::check::cause_at` meets its contract. Assumes nothing.
 use Rattle.rules.specs.DayFile.{emptyBlock}
-use Rattle.dayfile.specs.Walk.{lineItem}
+use Rattle.fileform.specs.Walk.{lineItem}
 use Rattle.dayfile.specs.Check.{causeBy}
-use Rattle.dayfile.proofs.WalkLaws.{head-whole, line-whole}
+use Rattle.fileform.proofs.WalkLaws.{head-whole, line-whole}
 use Rattle.dayfile.proofs.CheckLaws.{cause-of-one, block-held, nothing-held, line-held}
 use borrow.Author.Needs.{needs}
 use Rattle.dayfile.proofs.check.cause_at.Statement.{statement}

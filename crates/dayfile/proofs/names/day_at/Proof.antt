@@ -6,8 +6,8 @@ use lib.ListN.{getD}
 use borrow.Author.Tests.{eq-eqb, ne-eqb}
 use Rattle.rules.specs.DayFile.{emptyBlock, itemNames}
 use Rattle.book.proofs.Ladder.{passed, failed}
-use Rattle.dayfile.specs.Walk.{lineItem}
-use Rattle.dayfile.proofs.WalkLaws.{head-whole, line-whole}
+use Rattle.fileform.specs.Walk.{lineItem}
+use Rattle.fileform.proofs.WalkLaws.{head-whole, line-whole}
 use Rattle.dayfile.proofs.CheckLaws.{block-held, nothing-held, line-held}
 use Rattle.dayfile.proofs.NameLaws.{marked, of-none, of-one}
 use borrow.Author.Needs.{needs}

@@ -6,8 +6,8 @@ use native.Mathlib.Omega.{arith}
 use lib.ListN.{length, getD}
 use Rattle.numbers.specs.Tests.{any}
 use Rattle.rules.specs.DayFile.{items, itemNames, fileNames}
-use Rattle.dayfile.specs.Walk.{itemsAt, leftItems, pastStep}
-use Rattle.dayfile.proofs.WalkLaws.{items-end, past-within}
+use Rattle.fileform.specs.Walk.{itemsAt, leftItems, pastStep}
+use Rattle.fileform.proofs.WalkLaws.{items-end, past-within}
 use Rattle.dayfile.proofs.CheckLaws.{table-step}
 use Rattle.dayfile.proofs.NameLaws.{names-step}
 use borrow.Author.Needs.{needs}

@@ -6,9 +6,9 @@ use native.Mathlib.Omega.{arith}
 use lib.ListN.{length, getD}
 use Rattle.numbers.specs.Tests.{any}
 use Rattle.rules.specs.DayFile.{items}
-use Rattle.dayfile.specs.Walk.{itemsAt, leftItems, pastStep}
+use Rattle.fileform.specs.Walk.{itemsAt, leftItems, pastStep}
 use Rattle.dayfile.specs.Names.{itemHas, namesParty}
-use Rattle.dayfile.proofs.WalkLaws.{items-end, past-within}
+use Rattle.fileform.proofs.WalkLaws.{items-end, past-within}
 use Rattle.dayfile.proofs.CheckLaws.{table-step}
 use Rattle.dayfile.proofs.NameLaws.{names-step}
 use borrow.Author.Needs.{needs}

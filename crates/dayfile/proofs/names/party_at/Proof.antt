@@ -5,9 +5,9 @@ use mathlib.Core.List.{[]}
 use lib.Dec.{eqb}
 use lib.ListN.{getD}
 use Rattle.rules.specs.DayFile.{emptyBlock}
-use Rattle.dayfile.specs.Walk.{lineItem}
+use Rattle.fileform.specs.Walk.{lineItem}
 use Rattle.dayfile.specs.Names.{itemHas}
-use Rattle.dayfile.proofs.WalkLaws.{head-whole, line-whole}
+use Rattle.fileform.proofs.WalkLaws.{head-whole, line-whole}
 use Rattle.dayfile.proofs.CheckLaws.{block-held, nothing-held, line-held}
 use Rattle.dayfile.proofs.NameLaws.{marked, of-none, of-one}
 use borrow.Author.Needs.{needs}

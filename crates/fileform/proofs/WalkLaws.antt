@@ -1,0 +1,169 @@
+-- Laws of a walk of a file's bytes. Assumes nothing.
+use mathlib.Core.Path.{_≡_, refl}
+use mathlib.Core.Logic.{_⊎_, inl, inr}
+use mathlib.Core.Bool.{true, false, _&&_}
+use mathlib.Core.List.{List, [], _∷_, _++_}
+use Prim.Native.Nat.{ℕ, zero, suc, _+_, _-_, _≤_, _<_}
+use native.Mathlib.Numerals.{add-one, add-two, add-three, add-four}
+use native.Mathlib.Omega.{arith}
+use lib.Dec.{eqb, ltb}
+use lib.ListN.{length, getD, drop, length-drop}
+use lib.Seq.{drop-cons}
+use borrow.Author.Tests.{leb-true, leb-false, le-leb, ltb-true, ltb-false, lt-ltb, le-ltb, eq-eqb, ne-eqb}
+use Rattle.numbers.proofs.TestLaws.{bool-cases}
+use Rattle.rules.specs.DayFile.{Item, line, headItem, linesIn, isShaped, itemsFrom, wordsOf}
+use Rattle.fileform.specs.declared.Cursor.{Cursor}
+use Rattle.fileform.specs.Read.{stepAt, wordIn}
+use Rattle.fileform.specs.Walk.{wordAt, isMore, headAt, pastStep, lineAt, lineItem, itemsAt, isStepOk, leftItems, leftShaped}
+
+-- the bytes that a whole head or line has
+module _ (bs : List ℕ) (c : Cursor) (more : isMore bs c ≡ true) where
+  pub head-whole : c .left ≡ 0 → c .at + 8 ≤ length bs
+  unfolding isMore
+  head-whole z = omega (arith, leb-true 8 (length bs - c .at) (rw (eq-eqb (c .left) 0 z) at more))
+
+  pub line-whole : (c .left ≡ 0 → ⊥) → c .at + 12 ≤ length bs
+  unfolding isMore
+  line-whole n = omega (arith, leb-true 12 (length bs - c .at) (rw (ne-eqb (c .left) 0 n) at more))
+
+-- a reader finds each whole word
+pub word-found : (bs : List ℕ) (at : ℕ) → at + 4 ≤ length bs → wordIn (stepAt bs at) ≡ wordAt bs at
+unfolding stepAt
+word-found bs at h = rw (le-leb (at + 4) (length bs) h)
+
+-- the words of bytes, one at a time
+four : (bs : List ℕ) (at : ℕ) → at + 4 ≤ length bs → drop at bs ≡ getD bs at 0 ∷ getD bs (at + 1) 0 ∷ getD bs (at + 2) 0 ∷ getD bs (at + 3) 0 ∷ drop (at + 4) bs
+four bs at h =
+    rw (add-one at, add-two at, add-three at, add-four at, drop-cons bs at 0 (omega arith), drop-cons bs (suc at) 0 (omega arith), drop-cons bs (suc (suc at)) 0 (omega arith), drop-cons bs (suc (suc (suc at))) 0 (omega arith))
+
+pub words-cons : (bs : List ℕ) (at : ℕ) → at + 4 ≤ length bs → wordsOf (drop at bs) ≡ wordAt bs at ∷ wordsOf (drop (at + 4) bs)
+unfolding wordsOf wordAt
+words-cons bs at h = rw (four bs at h)
+
+-- fewer bytes than a word's make no word
+no-word : (bs : List ℕ) → length bs < 4 → wordsOf bs ≡ []
+unfolding wordsOf
+no-word [] h = refl
+no-word (a ∷ []) h = refl
+no-word (a ∷ b ∷ []) h = refl
+no-word (a ∷ b ∷ c ∷ []) h = refl
+no-word (a ∷ b ∷ c ∷ d ∷ bs) h = absurd (omega arith)
+
+pub words-end : (bs : List ℕ) (at : ℕ) → length bs - at < 4 → wordsOf (drop at bs) ≡ []
+words-end bs at h = no-word (drop at bs) (rw (length-drop at bs) h)
+
+pub some : (n : ℕ) → eqb (suc n) 0 ≡ false
+some n = ne-eqb (suc n) 0 (λ z. absurd (omega arith))
+
+pub below-or-above : (a b : ℕ) → (a < b) ⊎ (b ≤ a)
+below-or-above a b = elim (bool-cases (ltb a b)) [ inl e ↦ inl (ltb-true a b e) | inr e ↦ inr (ltb-false a b e) ]
+
+-- one head or line, and what is left after it
+head-items : (bs : List ℕ) (at p d : ℕ) → at + 8 ≤ length bs → itemsFrom 0 p d (wordsOf (drop at bs)) ≡ headItem (headAt bs at .left) (headAt bs at .party) (headAt bs at .day) [] ++ leftItems bs (headAt bs at)
+unfolding itemsFrom headAt
+head-items bs at p d h =
+    let e : at + 8 ≡ at + 4 + 4 = omega arith in
+    rw (e, words-cons bs at (omega arith), words-cons bs (at + 4) (omega arith)) (joined (linesIn (wordAt bs at)) _ _ _)
+  where
+    joined : (n p d : ℕ) (is : List Item) → headItem n p d is ≡ headItem n p d [] ++ is
+    joined zero p d is = refl
+    joined (suc n) p d is = refl
+
+line-items : (bs : List ℕ) (at n p d : ℕ) → at + 12 ≤ length bs → itemsFrom (suc n) p d (wordsOf (drop at bs)) ≡ lineItem (record { at = at; left = suc n; party = p; day = d }) (lineAt bs at) ∷ itemsFrom n p d (wordsOf (drop (at + 12) bs))
+unfolding itemsFrom lineAt
+line-items bs at n p d h =
+    let e : at + 12 ≡ at + 8 + 4 = omega arith in
+    let f : at + 8 ≡ at + 4 + 4 = omega arith in
+    rw (e, f, words-cons bs at (omega arith), words-cons bs (at + 4) (omega arith), words-cons bs (at + 4 + 4) (omega arith))
+
+pub items-step : (bs : List ℕ) (c : Cursor) → isMore bs c ≡ true → leftItems bs c ≡ itemsAt bs c ++ leftItems bs (pastStep bs c)
+unfolding itemsAt pastStep
+items-step bs c more = go (c .left) refl
+  where
+    go : (n : ℕ) → c .left ≡ n → leftItems bs c ≡ itemsAt bs c ++ leftItems bs (pastStep bs c)
+    go zero e = rw e (head-items bs (c .at) (c .party) (c .day) (head-whole bs c more e))
+    go (suc n) e =
+        let f : suc n - 1 ≡ n = omega arith in
+        rw (e, some n, f) (line-items bs (c .at) n (c .party) (c .day) (line-whole bs c more (λ z. absurd (omega arith))))
+
+-- where no head or line is whole, no item is left
+no-head : (bs : List ℕ) (at p d : ℕ) → length bs - at < 8 → itemsFrom 0 p d (wordsOf (drop at bs)) ≡ []
+unfolding itemsFrom
+no-head bs at p d h =
+    elim (below-or-above (length bs - at) 4) [
+      | inl l ↦ rw (words-end bs at l)
+      | inr l ↦ rw (words-cons bs at (omega arith), words-end bs (at + 4) (omega arith))
+    ]
+
+no-line : (bs : List ℕ) (at n p d : ℕ) → length bs - at < 12 → itemsFrom (suc n) p d (wordsOf (drop at bs)) ≡ []
+unfolding itemsFrom
+no-line bs at n p d h =
+    elim (below-or-above (length bs - at) 4) [
+      | inl l ↦ rw (words-end bs at l)
+      | inr l ↦
+          elim (below-or-above (length bs - at) 8) [
+            | inl m ↦ rw (words-cons bs at (omega arith), words-end bs (at + 4) (omega arith))
+            | inr m ↦ rw (words-cons bs at (omega arith), words-cons bs (at + 4) (omega arith), words-end bs (at + 4 + 4) (omega arith))
+          ]
+    ]
+
+pub items-end : (bs : List ℕ) (c : Cursor) → isMore bs c ≡ false → leftItems bs c ≡ []
+unfolding isMore
+items-end bs c more = go (c .left) refl
+  where
+    go : (n : ℕ) → c .left ≡ n → leftItems bs c ≡ []
+    go zero e = rw e (no-head bs (c .at) (c .party) (c .day) (leb-false 8 (length bs - c .at) (rw e at more)))
+    go (suc n) e = rw e (no-line bs (c .at) n (c .party) (c .day) (leb-false 12 (length bs - c .at) (rw (e, some n) at more)))
+
+-- a step stays within the file, and goes on
+pub past-within : (bs : List ℕ) (c : Cursor) → isMore bs c ≡ true → (c .at < pastStep bs c .at) × (pastStep bs c .at ≤ length bs)
+unfolding pastStep headAt
+past-within bs c more = go (c .left) refl
+  where
+    go : (n : ℕ) → c .left ≡ n → (c .at < pastStep bs c .at) × (pastStep bs c .at ≤ length bs)
+    go zero e = rw e (omega (arith, head-whole bs c more e))
+    go (suc n) e = rw (e, some n) (omega (arith, line-whole bs c more (λ z. absurd (omega arith))))
+
+-- the shape of what is left, by one head or line
+pub shaped-step : (bs : List ℕ) (c : Cursor) → isMore bs c ≡ true → leftShaped bs c ≡ isStepOk bs c && leftShaped bs (pastStep bs c)
+unfolding isShaped isStepOk pastStep headAt
+shaped-step bs c more = go (c .left) refl
+  where
+    go : (n : ℕ) → c .left ≡ n → leftShaped bs c ≡ isStepOk bs c && leftShaped bs (pastStep bs c)
+    go zero e =
+        let h = head-whole bs c more e in
+        let f : c .at + 8 ≡ c .at + 4 + 4 = omega arith in
+        rw (e, f, words-cons bs (c .at) (omega arith), words-cons bs (c .at + 4) (omega arith))
+    go (suc n) e =
+        let h = line-whole bs c more (λ z. absurd (omega arith)) in
+        let f : c .at + 12 ≡ c .at + 8 + 4 = omega arith in
+        let g : c .at + 8 ≡ c .at + 4 + 4 = omega arith in
+        let k : suc n - 1 ≡ n = omega arith in
+        rw (e, some n, k, f, g, words-cons bs (c .at) (omega arith), words-cons bs (c .at + 4) (omega arith), words-cons bs (c .at + 4 + 4) (omega arith))
+
+-- a file may end only where a block has ended
+pub shaped-end : (bs : List ℕ) (c : Cursor) → isMore bs c ≡ false → leftShaped bs c ≡ eqb (c .left) 0 && ltb (length bs - c .at) 4
+unfolding isMore isShaped
+shaped-end bs c more = go (c .left) refl
+  where
+    at-block : length bs - c .at < 8 → isShaped 0 (wordsOf (drop (c .at) bs)) ≡ ltb (length bs - c .at) 4
+    at-block h =
+        elim (below-or-above (length bs - c .at) 4) [
+          | inl l ↦ rw (words-end bs (c .at) l, lt-ltb _ _ l)
+          | inr l ↦ rw (words-cons bs (c .at) (omega arith), words-end bs (c .at + 4) (omega arith), le-ltb _ _ l)
+        ]
+
+    at-line : (n : ℕ) → length bs - c .at < 12 → isShaped (suc n) (wordsOf (drop (c .at) bs)) ≡ false
+    at-line n h =
+        elim (below-or-above (length bs - c .at) 4) [
+          | inl l ↦ rw (words-end bs (c .at) l)
+          | inr l ↦
+              elim (below-or-above (length bs - c .at) 8) [
+                | inl m ↦ rw (words-cons bs (c .at) (omega arith), words-end bs (c .at + 4) (omega arith))
+                | inr m ↦ rw (words-cons bs (c .at) (omega arith), words-cons bs (c .at + 4) (omega arith), words-end bs (c .at + 4 + 4) (omega arith))
+              ]
+        ]
+
+    go : (n : ℕ) → c .left ≡ n → leftShaped bs c ≡ eqb (c .left) 0 && ltb (length bs - c .at) 4
+    go zero e = rw e (at-block (leb-false 8 (length bs - c .at) (rw e at more)))
+    go (suc n) e = rw (e, some n) (at-line n (leb-false 12 (length bs - c .at) (rw (e, some n) at more)))

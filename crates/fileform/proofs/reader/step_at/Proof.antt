@@ -1,0 +1,32 @@
+-- `fileform::reader::step_at` meets its contract. Assumes nothing.
+use Prim.Native.Nat.{_+_}
+use native.Mathlib.Omega.{arith}
+use lib.ListN.{length}
+use borrow.Author.Tests.{le-leb, lt-leb}
+use Rattle.fileform.specs.Read.{stepAt}
+use borrow.Author.Needs.{needs}
+use Rattle.fileform.proofs.reader.step_at.Statement.{statement}
+use Rattle.fileform.proofs.reader.step_at.Tie as tie
+
+returns : tie.Need-returns
+unfolding stepAt
+returns c = rw (lt-leb (c .before .before .args .at + 4) (length (c .before .before .args .bytes .now)) (omega arith))
+
+returns-2 : tie.Need-returns-2
+unfolding stepAt
+returns-2 c = rw (lt-leb (c .before .before .before .args .at + 4) (length (c .before .before .before .args .bytes .now)) (omega arith))
+
+decode-requires : tie.Need-decode-requires
+decode-requires c κs = search needs
+
+add-t5 : tie.Need-add-t5
+add-t5 c = search needs
+
+returns-3 : tie.Need-returns-3
+unfolding stepAt
+returns-3 c =
+    let a = c .before .before .before .before .args in
+    rw (le-leb (a .at + 4) (length (a .bytes .now)) (omega arith), c .decode .ensures)
+
+pub step-at-spec : {M : Type 1} → statement M
+step-at-spec = tie.close (tie.spec returns returns-2 decode-requires add-t5 returns-3)

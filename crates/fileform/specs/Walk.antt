@@ -1,0 +1,74 @@
+-- A walk of a day file's bytes, block head by block head and line by line (01, 'Day file').
+use mathlib.Core.Bool.{Bool, cond}
+use mathlib.Core.List.{List, [], _∷_}
+use Prim.Native.Nat.{ℕ, _+_, _-_, _*_, _/_, _%_}
+use lib.Dec.{eqb, leb}
+use lib.ListN.{length, getD, drop}
+use Rattle.rules.specs.Entry.{keyOf}
+use Rattle.rules.specs.Words.{valueOf}
+use Rattle.rules.specs.DayFile.{Item, line, headItem, linesIn, partyIn, isHead, isLine, isShaped, itemsFrom, wordsOf}
+use Rattle.fileform.specs.declared.Cursor.{Cursor}
+use Rattle.fileform.specs.declared.Line.{Line}
+
+-- the little-endian word at a byte
+unfoldable pub wordAt : List ℕ → ℕ → ℕ
+wordAt bs at =
+    getD bs at 0 + getD bs (at + 1) 0 * 256 + getD bs (at + 2) 0 * 65536 + getD bs (at + 3) 0 * 16777216
+
+abbrev pub start : Cursor
+start = record { at = 0; left = 0; party = 0; day = 0 }
+
+-- a block's head is two words, a line three
+abbrev pub stepBytes : Cursor → ℕ
+stepBytes c = cond (eqb (c .left) 0) 8 12
+
+-- the next head or line is whole
+unfoldable pub isMore : List ℕ → Cursor → Bool
+isMore bs c = leb (stepBytes c) (length bs - c .at)
+
+-- past the head at a byte
+unfoldable pub headAt : List ℕ → ℕ → Cursor
+headAt bs at =
+    record { at = at + 8; left = linesIn (wordAt bs at); party = partyIn (wordAt bs at); day = valueOf (wordAt bs (at + 4)) }
+
+-- past a line
+abbrev pub pastLine : Cursor → Cursor
+pastLine c = record { at = c .at + 12; left = c .left - 1; party = c .party; day = c .day }
+
+unfoldable pub pastStep : List ℕ → Cursor → Cursor
+pastStep bs c = cond (eqb (c .left) 0) (headAt bs (c .at)) (pastLine c)
+
+-- the line at a byte
+unfoldable pub lineAt : List ℕ → ℕ → Line
+lineAt bs at =
+    record {
+      «entry_type» = valueOf (wordAt bs at) % 256;
+      counterparty = valueOf (wordAt bs at) / 256;
+      amount = valueOf (wordAt bs (at + 4)) + valueOf (wordAt bs (at + 8)) * 268435456;
+    }
+
+abbrev pub lineItem : Cursor → Line → Item
+lineItem c l = line (keyOf (c .party) (c .day) (l .«entry_type») (l .counterparty)) (l .amount)
+
+-- what the next head or line holds: a head holds an item if its block has no lines
+unfoldable pub itemsAt : List ℕ → Cursor → List Item
+itemsAt bs c =
+    cond
+    (eqb (c .left) 0)
+    (headItem (headAt bs (c .at) .left) (headAt bs (c .at) .party) (headAt bs (c .at) .day) [])
+    (lineItem c (lineAt bs (c .at)) ∷ [])
+
+-- the next head or line has its kinds, and no spare or status bit set
+unfoldable pub isStepOk : List ℕ → Cursor → Bool
+isStepOk bs c =
+    cond
+    (eqb (c .left) 0)
+    (isHead (wordAt bs (c .at)) (wordAt bs (c .at + 4)))
+    (isLine (wordAt bs (c .at)) (wordAt bs (c .at + 4)) (wordAt bs (c .at + 8)))
+
+-- what is left from here on
+abbrev pub leftItems : List ℕ → Cursor → List Item
+leftItems bs c = itemsFrom (c .left) (c .party) (c .day) (wordsOf (drop (c .at) bs))
+
+abbrev pub leftShaped : List ℕ → Cursor → Bool
+leftShaped bs c = isShaped (c .left) (wordsOf (drop (c .at) bs))
