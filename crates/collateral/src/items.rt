@@ -76,7 +76,7 @@ pub fn imbalance_of(case: Case) -> u64
     let volume = months::lowest_volume(answers, group.used);
     if volume < 0 {
         let price = months::highest_price(answers, group.used);
-        let product = group.rk as u64 * price * months::size_of(volume);
+        let product = group.rk as u64 * price * numbers::magnitude(volume);
         numbers::round_up(product, 100000)
     } else {
         0

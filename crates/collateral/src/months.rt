@@ -1,24 +1,12 @@
 // Internal: the month answers of a case, latest first, of which the first n are used (01, 'Collateral'). A caller meets each `requires`.
 ghost use mathlib.Core.Path.{_≡_};
 ghost use Prim.Native.Nat.{_≤_};
-ghost use lib.IntN.{natAbs};
 ghost use lib.ListN.{take};
 ghost use Rattle.numbers.specs.Signed.{lower};
 ghost use Rattle.numbers.specs.Tests.{all};
 ghost use Rattle.rules.specs.Collateral.{highestPrice, monthOk};
 ghost use Rattle.collateral.specs.Months.{lowestOf};
 use rules::Month;
-
-// The absolute value of a volume.
-pub fn size_of(volume: i64) -> u64
-    ensures { λ r. ⌜ r ≡ natAbs volume ⌝ }
-{
-    if volume < 0 {
-        ((-1 - volume) as u64) + 1
-    } else {
-        volume as u64
-    }
-}
 
 // The lower of two volumes.
 pub fn lower_of(a: i64, b: i64) -> i64
@@ -30,7 +18,7 @@ pub fn lower_of(a: i64, b: i64) -> i64
 pub fn month_ok(month: Month) -> bool
     ensures { λ r. ⌜ r ≡ monthOk month ⌝ }
 {
-    (month.aosmf <= 1000000) & (size_of(month.aedm) <= 14900000000)
+    (month.aosmf <= 1000000) & (numbers::magnitude(month.aedm) <= 14900000000)
 }
 
 // A month answer is held to its ranges only if it is used.

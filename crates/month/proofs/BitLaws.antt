@@ -35,7 +35,7 @@ natAbs-neg (negsuc n) = refl
 pub wide : (z : ℤ) → SFits w32 z → SFits w64 (in32 z)
 wide z f = rw (toZ-ofZ w32 z f) (record { sfits = omega (arith, f .sfits) })
 
-wide-exact : (z : ℤ) → SFits w32 z → in64 (in32 z) ≡ z
+pub wide-exact : (z : ℤ) → SFits w32 z → in64 (in32 z) ≡ z
 wide-exact z f = toZ-ofZ w64 (in32 z) (wide z f) ∙ toZ-ofZ w32 z f
 
 -- a difference of 32-bit figures, taken in 64 bits

@@ -57,7 +57,7 @@ fn volumes_ok(volumes: &[i32]) -> bool
     let mut ok = true;
     let mut i = 0;
     while i < volumes.len() {
-        ok = ok & (numbers::magnitude(volumes[i]) <= MOST_VOLUME);
+        ok = ok & (numbers::magnitude(volumes[i] as i64) <= MOST_VOLUME);
         i += 1;
     }
     ok

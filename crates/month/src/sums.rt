@@ -41,7 +41,7 @@ fn row_sums(prices: &[u32], imbalance: &[i32], at: usize) -> Sums
     let mut weights: u64 = 0;
     let mut h = 0;
     while h < prices.len() {
-        let weight = numbers::magnitude(imbalance[at + h]);
+        let weight = numbers::magnitude(imbalance[at + h] as i64);
         weighted += weight * (prices[h] as u64);
         weights += weight;
         h += 1;

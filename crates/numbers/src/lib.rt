@@ -5,7 +5,7 @@ ghost use lib.IntN.{natAbs};
 ghost use Rattle.numbers.specs.Rounding.{halfUp, roundUp};
 
 // The absolute value of a signed figure.
-pub fn magnitude(x: i32) -> u64
+pub fn magnitude(x: i64) -> u64
     ensures { λ r. ⌜ r ≡ natAbs x ⌝ }
 {
     if x < 0 {

@@ -20,20 +20,11 @@ fn told(s: State, ok: bool) -> State {
     }
 }
 
-// The size of a balance, whatever its sign.
-fn size(balance: i64) -> u64 {
-    if balance < 0 {
-        ((-1 - balance) as u64) + 1
-    } else {
-        balance as u64
-    }
-}
-
 // The answer, the balance by sign and size, and whether it is detected.
 fn is_answer(got: rules::BalanceAnswer, l: Line) -> bool {
     (got.answer == 0)
         & ((got.balance < 0) == (list::at(l, 3) == 1))
-        & (size(got.balance) == list::wide(l, 4))
+        & (numbers::magnitude(got.balance) == list::wide(l, 4))
         & (position::detected(got.balance) == (list::at(l, 5) == 1))
 }
 

@@ -2,7 +2,6 @@
 ghost use mathlib.Core.Path.{_≡_};
 ghost use mathlib.Core.List.{[], _∷_, _++_};
 ghost use Prim.Native.Nat.{_+_, _≤_, _<_};
-ghost use lib.IntN.{natAbs};
 ghost use lib.ListN.{length};
 ghost use Rattle.report.specs.Text.{decimal, signed, Wrote};
 
@@ -48,22 +47,11 @@ pub fn put_decimal(out: &mut [u8], at: usize, x: u64) -> usize
     put(out, next, digit(x % 10))
 }
 
-// The absolute value of a balance.
-fn magnitude(x: i64) -> u64
-    ensures { λ r. ⌜ r ≡ natAbs x ⌝ }
-{
-    if x < 0 {
-        ((-1 - x) as u64) + 1
-    } else {
-        x as u64
-    }
-}
-
 pub fn put_signed(out: &mut [u8], at: usize, x: i64) -> usize
     requires { ⌜ at ≤ length (now out) ⌝ }
     ensures { λ r. ⌜ Wrote (now (out .entry)) at (signed x) r (now (out .exit)) ⌝ }
 {
-    let size = magnitude(x);
+    let size = numbers::magnitude(x);
     if x < 0 {
         let next = put(out, at, b'-');
         return put_decimal(out, next, size);

@@ -25,12 +25,12 @@ module _ (l : tie.After-lowest-volume) where
   own : start .args .case .group .responsible ≡ 1
   own = l .before .before .if1 .left
 
-module _ (c : tie.After-size-of) where
+module _ (c : tie.After-magnitude) where
   abbrev low : tie.After-lowest-volume
   low = c .before .before .before .before
 
-  size : c .size-of .result ≡ natAbs (low .lowest-volume .result)
-  size = c .size-of .ensures ∙ ap natAbs (back low)
+  size : c .magnitude .result ≡ natAbs (low .lowest-volume .result)
+  size = c .magnitude .ensures ∙ ap natAbs (back low)
 
 returns : tie.Need-returns
 returns c = not-responsible (c .before .before .before .args .case) (c .if1 .taken)
@@ -50,8 +50,8 @@ mul-product c =
     let s = start l in
     omega (arith, price-fits (s .args .case) (own l) (l .lowest-volume .ensures) (ranges s) (c .before .highest-price .ensures))
 
-size-of-requires : tie.Need-size-of-requires
-size-of-requires c κs = search needs
+magnitude-requires : tie.Need-magnitude-requires
+magnitude-requires c κs = search needs
 
 mul-product-2 : tie.Need-mul-product-2
 mul-product-2 c =
@@ -83,7 +83,7 @@ imbalance-of-spec =
     highest-price-requires
     cast-product
     mul-product
-    size-of-requires
+    magnitude-requires
     mul-product-2
     round-up-requires
     returns-2

@@ -10,7 +10,7 @@ use borrow.Author.Needs.{needs}
 use Rattle.numbers.specs.Tests.{all}
 use Rattle.rules.specs.Month.{volumeOk}
 use Rattle.month.proofs.ScanLaws.{all-more, all-end}
-use Rattle.month.proofs.BitLaws.{exact32}
+use Rattle.month.proofs.BitLaws.{wide, wide-exact}
 use Rattle.month.proofs.ranges.volumes_ok.Statement.{statement}
 use Rattle.month.proofs.ranges.volumes_ok.Tie as tie
 
@@ -29,6 +29,10 @@ mul-magnitude c = search needs
 shared-slice-copy-out-magnitude : tie.Need-shared-slice-copy-out-magnitude Inv-loop μ-loop
 shared-slice-copy-out-magnitude c = search needs
 
+cast-magnitude : tie.Need-cast-magnitude Inv-loop μ-loop
+cast-magnitude c =
+    wide (getD (c .before .before .before .args .volumes .now) (c .before .before .loop .i) (pos 0)) (record { sfits = c .magnitude-arg .given })
+
 magnitude-requires : tie.Need-magnitude-requires Inv-loop μ-loop
 magnitude-requires c κs = search needs
 
@@ -43,7 +47,7 @@ loop-again c =
     let at = c .before .before .before .loop in
     let volumes : List ℤ = c .before .before .before .before .args .volumes .now in
     let size : c .magnitude .result ≡ natAbs (getD volumes (at .i) (pos 0)) =
-    c .magnitude .ensures ∙ ap natAbs (exact32 (getD volumes (at .i) (pos 0)) (c .before .magnitude-arg .given)) in
+    c .magnitude .ensures ∙ ap natAbs (wide-exact (getD volumes (at .i) (pos 0)) (record { sfits = c .before .magnitude-arg .given })) in
     (search needs, rw size (all-more volumeOk volumes (at .ok) (at .i) (pos 0) (c .before .before .loop-test .taken) (at .inv .1)))
 
 returns : tie.Need-returns Inv-loop μ-loop
@@ -60,6 +64,7 @@ volumes-ok-spec =
     loop-holds
     mul-magnitude
     shared-slice-copy-out-magnitude
+    cast-magnitude
     magnitude-requires
     add-i
     loop-less

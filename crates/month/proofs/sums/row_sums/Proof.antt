@@ -6,7 +6,7 @@ use lib.IntN.{natAbs}
 use lib.ListN.{length}
 use Rattle.numbers.specs.Sums.{sum}
 use Rattle.month.specs.Rows.{figureAt, firstWeighted, firstWeights}
-use Rattle.month.proofs.BitLaws.{exact32}
+use Rattle.month.proofs.BitLaws.{wide, wide-exact}
 use Rattle.month.proofs.RowLaws.{HourPriced, hour-priced}
 use borrow.Author.Needs.{needs}
 use Rattle.month.proofs.sums.row_sums.Statement.{statement}
@@ -32,6 +32,11 @@ mul-magnitude c = search needs
 shared-slice-copy-out-magnitude : tie.Need-shared-slice-copy-out-magnitude Inv-loop μ-loop
 shared-slice-copy-out-magnitude c = search needs
 
+cast-magnitude : tie.Need-cast-magnitude Inv-loop μ-loop
+cast-magnitude c =
+    let at = c .before .before in
+    wide (figureAt (at .before .before .args .imbalance .now) (at .before .before .args .at) (at .loop .h)) (record { sfits = c .magnitude-arg .given })
+
 magnitude-requires : tie.Need-magnitude-requires Inv-loop μ-loop
 magnitude-requires c κs = search needs
 
@@ -55,7 +60,7 @@ module _ (c : tie.After-shared-slice-known2 Inv-loop μ-loop) where
       hour-priced (asked .args .prices .now) (asked .args .imbalance .now) (asked .args .at) (here .loop .h)
       (asked .pre)
       (c .before .before .before .loop-test .taken)
-      (c .before .magnitude .ensures ∙ ap natAbs (exact32 (figureAt (asked .args .imbalance .now) (asked .args .at) (here .loop .h)) (c .before .before .magnitude-arg .given)))
+      (c .before .magnitude .ensures ∙ ap natAbs (wide-exact (figureAt (asked .args .imbalance .now) (asked .args .at) (here .loop .h)) (record { sfits = c .before .before .magnitude-arg .given })))
       (here .loop .inv .1)
       (here .loop .inv .2)
 
@@ -95,6 +100,7 @@ row-sums-spec =
     add-magnitude
     mul-magnitude
     shared-slice-copy-out-magnitude
+    cast-magnitude
     magnitude-requires
     mul-weighted
     shared-slice-read-weighted
