@@ -1,21 +1,17 @@
 -- The debts of the latest days over a window table, day by day as the code walks. Assumes nothing.
 use mathlib.Core.Path.{_≡_, refl}
-use mathlib.Core.Bool.{Bool, true, false, cond}
+use mathlib.Core.Bool.{Bool}
 use mathlib.Core.List.{List}
-use Prim.Native.Nat.{ℕ, zero, suc, _+_, _-_, _*_, min, _≤_, _<_, zero-le}
-use native.Mathlib.Nat.{le-refl}
+use Prim.Native.Nat.{ℕ, zero, suc, _+_, _-_, _*_, min, _≤_, _<_}
 use native.Mathlib.Omega.{arith}
 use lib.ListN.{getD}
+use Rattle.numbers.proofs.SumLaws.{cond-below}
 use Rattle.rules.specs.Collateral.{Money, debtOf, debts}
 use Rattle.collateral.specs.Window.{mostInCell, moneyIn, AtMost}
 use Rattle.collateral.specs.Walk.{chosen, leftAfter, owed}
 
-pub picked-below : (b : Bool) (x : ℕ) → cond b x 0 ≤ x
-picked-below true x = le-refl x
-picked-below false x = zero-le
-
 pub owed-limit : (a i : Bool) (b s c t : ℕ) → b ≤ mostInCell → c ≤ mostInCell → owed a i b s c t ≤ 2 * mostInCell
-owed-limit a i b s c t hb hc = omega (arith, picked-below a b, picked-below i c)
+owed-limit a i b s c t hb hc = omega (arith, cond-below a b, cond-below i c)
 
 -- one day of the walk
 module _ (cells : List ℕ) (g i : ℕ) (d : i < 30) (e : i < g) (a b : ℕ) where

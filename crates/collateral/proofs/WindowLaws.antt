@@ -18,8 +18,8 @@ use Rattle.rules.specs.Entry.{Label, Record, key, isMoney, standing, mostMoney}
 use Rattle.rules.specs.Words.{decode, isBook, entries, countOf, readEntries}
 use Rattle.rules.specs.Balance.{counted, sumOf}
 use Rattle.rules.specs.Collateral.{Money, debtOf, debts, moneyOf}
-use Rattle.rules.proofs.SumOrder.{forTests, CountsFor, counts-for, in-range}
-use Rattle.rules.proofs.WordLaws.{entry-facts, legal-bounds}
+use Rattle.rules.proofs.SumOrder.{forTests, CountsFor, counts-for}
+use Rattle.rules.proofs.WordLaws.{entry-facts, legal-bounds, within-true}
 use Rattle.book.proofs.BookCode.{read-from, book-entry}
 use Rattle.collateral.specs.Window.{AtMost, cellCount, windowDays, inWindow, cellOf, addedAt, filled, windowOf, moneyIn}
 use Rattle.collateral.specs.Walk.{chosen, leftAfter, owed}
@@ -38,7 +38,7 @@ inside p g l e =
     let h =
     every-holds
     (eqb (l .key .party) p ∷ eqb (l .status) standing ∷ isMoney (l .key .type) ∷ ltb (l .key .day) g ∷ leb g (l .key .day + windowDays) ∷ []) e in
-    let t = in-range 17 20 (l .key .type) (h .1 .1 .0) in
+    let t = within-true 17 20 (l .key .type) (h .1 .1 .0) in
     record {
       party = eqb-true _ _ (h .0);
       status = eqb-true _ _ (h .1 .0);

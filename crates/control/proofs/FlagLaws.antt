@@ -1,15 +1,16 @@
 -- Flags of parties, set one after the other. Assumes nothing.
-use mathlib.Core.Path.{_≡_, refl, sym, ap, _∙_, fun-ext}
+use mathlib.Core.Path.{_≡_, sym, ap, _∙_, fun-ext}
 use mathlib.Core.Logic.{inl, inr}
-use mathlib.Core.Bool.{Bool, true, false, cond, _&&_, _||_}
+use mathlib.Core.Bool.{Bool, true, false, cond, _&&_, _||_, and-false}
 use mathlib.Core.List.{List, [], _∷_}
 use Prim.Native.Nat.{ℕ, zero, suc, _+_, _≤_, _<_}
 use native.Mathlib.Omega.{arith}
 use lib.Dec.{eqb, ltb, leb}
-use lib.ListN.{length, getD, set, replicate, length-set, length-replicate}
+use lib.ListN.{length, getD, set, length-set, length-replicate}
 use lib.Seq.{getD-set-same, getD-set-other}
 use borrow.Author.Tests.{eqb-true, eqb-false, ltb-true, ltb-false, lt-ltb, le-ltb, le-leb, lt-leb}
 use Rattle.numbers.proofs.TestLaws.{bool-cases}
+use Rattle.numbers.proofs.ListLaws.{getD-blank}
 use Rattle.rules.specs.Entry.{partyOk}
 use Rattle.rules.specs.Control.{Parties}
 use Rattle.rules.specs.Balance.{dayAhead, balanceOf, isDetected}
@@ -20,14 +21,9 @@ pub record Below (n : ℕ) (f : Parties) (flags : List Bool) : Type 0 where
   pub long : length flags ≡ 1000
   pub flag : (q : ℕ) → getD flags q false ≡ ltb q n && f q
 
-no-flag-in : (n q : ℕ) → getD (replicate n false) q false ≡ false
-no-flag-in zero q = refl
-no-flag-in (suc n) zero = refl
-no-flag-in (suc n) (suc q) = no-flag-in n q
-
 pub no-flag : (q : ℕ) → getD noFlags q false ≡ false
 unfolding noFlags
-no-flag q = no-flag-in 1000 q
+no-flag q = getD-blank 1000 q false
 
 pub length-no-flags : length noFlags ≡ 1000
 unfolding noFlags
@@ -42,10 +38,6 @@ flag-after flags k j long h =
       | inl e ↦ let s : j ≡ k = sym (eqb-true k j e) in rw (e, s) (getD-set-same flags k true false (rw long h))
       | inr e ↦ rw e (getD-set-other flags k j true false (λ s. eqb-false k j e (sym s)))
     ]
-
-and-false : (b : Bool) → false ≡ b && false
-and-false true = refl
-and-false false = refl
 
 module _ (f : Parties) where
   pub below-start : (flags : List Bool) → flags ≡ noFlags → f 0 ≡ false → Below 1 f flags
@@ -80,7 +72,7 @@ module _ (f : Parties) where
         at : (q : ℕ) → getD flags q false ≡ ltb q (n + 1) && f q
         at q =
             elim (bool-cases (eqb q n)) [
-              | inl s ↦ let k : q ≡ n = eqb-true q n s in b .flag q ∙ rw (k, le-ltb n n (omega arith), z) (and-false (ltb n (n + 1)))
+              | inl s ↦ let k : q ≡ n = eqb-true q n s in b .flag q ∙ rw (k, le-ltb n n (omega arith), z) (sym (and-false (ltb n (n + 1))))
               | inr s ↦ let k = eqb-false q n s in rw (below-next n q k) (b .flag q)
             ]
 
@@ -96,7 +88,7 @@ module _ (f : Parties) where
 
 -- no number from 1000 on is a party
 pub no-party : (q : ℕ) → 1000 ≤ q → partyOk q ≡ false
-no-party q h = rw (lt-leb q 999 h) (sym (and-false (leb 1 q)))
+no-party q h = rw (lt-leb q 999 h) (and-false (leb 1 q))
 
 -- the detected ones among some parties
 module _ (cells : List ℕ) (R TM : ℕ) (among : List Bool) where
@@ -105,11 +97,11 @@ module _ (cells : List ℕ) (R TM : ℕ) (among : List Bool) where
 
   pub detected-none : Detected 0 ≡ false
   unfolding detectedAmong
-  detected-none = sym (and-false (flagged among 0))
+  detected-none = and-false (flagged among 0)
 
   pub detected-past : (q : ℕ) → 1000 ≤ q → Detected q ≡ false
   unfolding detectedAmong
-  detected-past q h = rw (no-party q h) (sym (and-false (flagged among q)))
+  detected-past q h = rw (no-party q h) (and-false (flagged among q))
 
   pub detected-not-asked : (p : ℕ) → getD among p false ≡ false → Detected p ≡ false
   unfolding detectedAmong

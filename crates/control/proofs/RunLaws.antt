@@ -1,13 +1,13 @@
 -- The two passes and the mark, one after the other, are the control of the definition. Assumes nothing.
 use mathlib.Core.Path.{_≡_, refl, sym, ap, ap₂, subst, _∙_, fun-ext}
 use mathlib.Core.Logic.{inl, inr}
-use mathlib.Core.Bool.{Bool, true, false, not, _&&_}
+use mathlib.Core.Bool.{Bool, true, false, not, _&&_, and-false}
 use mathlib.Core.List.{List, [], _∷_, _++_}
 use Prim.Native.Nat.{ℕ, zero, suc, _+_, _-_, _*_, _≤_, _<_}
 use native.Mathlib.Nat.{le-refl}
 use native.Mathlib.Omega.{arith}
 use lib.Dec.{ltb, leb}
-use lib.ListN.{length, getD, drop, set, replicate}
+use lib.ListN.{length, getD, drop, set, replicate, getD-replicate}
 use lib.Seq.{drop-drop}
 use borrow.Author.Tests.{ltb-true, ltb-false, lt-ltb, le-ltb, not-true, not-false}
 use Rattle.numbers.specs.Sums.{count}
@@ -29,15 +29,6 @@ use Rattle.control.proofs.FlagLaws.{no-party}
 use Rattle.control.proofs.ControlLaws.{cancel-length, cancel-legals, control-passes}
 
 -- everyone is asked in the first pass
-all-flag : (n p : ℕ) → p < n → getD (replicate n true) p false ≡ true
-all-flag zero p h = absurd (omega arith)
-all-flag (suc n) zero h = refl
-all-flag (suc n) (suc p) h = all-flag n p (omega arith)
-
-and-false : (b : Bool) → b && false ≡ false
-and-false true = refl
-and-false false = refl
-
 pub first-checked : (ws : List ℕ) (d : ℕ) → checked ws d everyone ≡ firstPass (coefficientOf ws) (toleranceOf ws) d (entries ws)
 unfolding checked everyone firstPass detectedIn
 first-checked ws d = fun-ext at
@@ -45,7 +36,7 @@ first-checked ws d = fun-ext at
     at : (p : ℕ) → checked ws d everyone p ≡ firstPass (coefficientOf ws) (toleranceOf ws) d (entries ws) p
     at p =
         elim (bool-cases (ltb p 1000)) [
-          | inl e ↦ rw (all-flag 1000 p (ltb-true p 1000 e))
+          | inl e ↦ rw (getD-replicate 1000 p true false (ltb-true p 1000 e))
           | inr e ↦ rw (no-party p (ltb-false p 1000 e)) (and-false (getD (replicate 1000 true) p false))
         ]
 

@@ -7,7 +7,7 @@ use native.Mathlib.Omega.{arith}
 use lib.ListN.{length, getD, take, drop, length-take}
 use lib.Seq.{take-all}
 use Rattle.numbers.specs.Tests.{all}
-use Rattle.numbers.proofs.TestLaws.{all-getD}
+use Rattle.numbers.proofs.TestLaws.{all-getD, all-take}
 use Rattle.rules.specs.Entry.{Record, legal}
 use Rattle.rules.specs.Words.{isBook, entries, countOf, decode}
 use Rattle.rules.specs.Book.{entryAt, readOf}
@@ -17,7 +17,7 @@ use Rattle.rules.proofs.WordLaws.{book-facts}
 use Rattle.rules.proofs.BookLaws.{entry-at}
 use Rattle.book.proofs.BookCode.{book-long, book-entry}
 use Rattle.control.specs.Tables.{over, added, recordRead, mostCell, tableOf, noSums}
-use Rattle.control.proofs.TableLaws.{all-take, over-step, table-below}
+use Rattle.control.proofs.TableLaws.{over-step, table-below}
 
 -- what the first i of n entries of a book leave of a table
 pub record Scanned {S : Type 0} (f : Record → S → S) (none : S) (ws : List ℕ) (n i : ℕ) (s : S) : Type 0 where

@@ -3,17 +3,18 @@ use mathlib.Core.Path.{_≡_, refl, sym, ap, ap₂, _∙_}
 use mathlib.Core.Logic.{inl, inr}
 use mathlib.Core.Bool.{Bool, true, false, not, cond, _&&_, false≢true}
 use mathlib.Core.List.{List, [], _∷_, _++_, map}
-use Prim.Native.Nat.{ℕ, zero, suc, _+_, _-_, _*_, _≤_, _<_}
+use Prim.Native.Nat.{ℕ, _+_, _-_, _*_, _≤_, _<_}
 use native.Mathlib.Nat.{add-zero, le-of-eq}
 use native.Mathlib.Numerals.{add-one}
 use native.Mathlib.Omega.{arith}
 use lib.Dec.{eqb, leb, ltb}
-use lib.ListN.{length, getD, set, take, drop, length-set, length-take, length-drop, take-append-drop, replicate, length-replicate, getD-replicate, List·getD-map}
+use lib.ListN.{length, getD, take, drop, length-set, length-take, length-drop, length-replicate, getD-replicate, List·getD-map}
 use lib.Seq.{getD-set-same, getD-set-other, set-out, getD-take, getD-drop, take-suc, ext-getD}
 use borrow.Author.Tests.{eqb-true, eqb-false, eq-eqb, ne-eqb, ltb-true, ltb-false, le-leb, not-true}
 use Rattle.numbers.specs.Sums.{total}
 use Rattle.numbers.specs.Tests.{every, all, allBelow}
-use Rattle.numbers.proofs.TestLaws.{bool-cases, and-split, and-join, every-holds, holds-every, all-append, allBelow-at}
+use Rattle.numbers.proofs.TestLaws.{bool-cases, and-split, and-join, every-holds, holds-every, allBelow-at}
+use Rattle.numbers.proofs.ListLaws.{getD-blank, getD-map}
 use Rattle.rules.specs.Entry.{Record, key, legal, isStanding, isVolume, isExport, isMark}
 use Rattle.rules.specs.Ledger.{noRecord}
 use Rattle.rules.specs.Balance.{counted, countedTo, sumOf, boughtBy, tallyOf, volumeTypes}
@@ -38,10 +39,6 @@ module _ {S : Type 0} (f : Record → S → S) where
   unfolding over
   over-step rs s i h =
       rw (add-one i, take-suc rs i noRecord h, over-append (take i rs) (getD rs i noRecord ∷ []) s)
-
-pub all-take : {A : Type 0} (f : A → Bool) (xs : List A) (i : ℕ) → all f xs ≡ true → all f (take i xs) ≡ true
-all-take f xs i e =
-    and-split (all f (take i xs)) (all f (drop i xs)) (sym (all-append f (take i xs) (drop i xs)) ∙ ap (all f) (take-append-drop i xs) ∙ e) .0
 
 -- what a legal entry that counts is
 pub record Counted (d : ℕ) (r : Record) : Type 0 where
@@ -272,19 +269,9 @@ module _ (d : ℕ) where
       let s = and-split (legal r) (all legal rs) e in
       omega (arith, over-cell j share h rs (added d r cells) (s .1) (length-added d r cells ∙ long), h r cells (s .0) long)
 
-no-cell : (n j : ℕ) → _≡_ {A = ℕ} (getD (replicate n 0) j 0) 0
-no-cell zero j = refl
-no-cell (suc n) zero = refl
-no-cell (suc n) (suc j) = no-cell n j
-
 type-at : (i : ℕ) → i < 16 → getD volumeTypes i 0 ≡ i + 1
 unfolding allBelow
 type-at i h = eqb-true _ _ (allBelow-at 16 (λ k. eqb (getD volumeTypes k 0) (k + 1)) refl i h)
-
-getD-map : {A B : Type 0} (f : A → B) (xs : List A) (i : ℕ) (x : A) (y : B) → i < length xs → getD (map f xs) i y ≡ f (getD xs i x)
-getD-map f [] i x y h = absurd (omega arith)
-getD-map f (a ∷ xs) zero x y h = refl
-getD-map f (a ∷ xs) (suc i) x y h = getD-map f xs i x y (omega arith)
 
 blank : length noSums ≡ 17000
 unfolding noSums
@@ -292,7 +279,7 @@ blank = length-replicate {A = ℕ} 17000 0
 
 no-sum : (j : ℕ) → getD noSums j 0 ≡ 0
 unfolding noSums
-no-sum j = no-cell 17000 j
+no-sum j = getD-blank {A = ℕ} 17000 j 0
 
 sixteen : (cells : List ℕ) (p : ℕ) → p ≤ 999 → length cells ≡ 17000 → length (take 16 (drop (17 * p) cells)) ≡ 16
 sixteen cells p h long = rw (length-take 16 (drop (17 * p) cells), length-drop (17 * p) cells, long) (omega arith)
@@ -342,15 +329,6 @@ module _ (d : ℕ) (rs : List Record) (ok : all legal rs ≡ true) where
       ap (λ sums. record { party = p; sums = sums })
       (ext-getD 0 (take 16 (drop (17 * p) (tableOf d rs))) (map (λ t. sumOf p d t rs) volumeTypes) (length-sums p h)
       (λ i l. sums-at p h i (rw (length-sums p h) at l)))
-
--- one element more of a list that is written in order
-pub set-more : {A : Type 0} (z : A) (f : ℕ → A) (xs : List A) (k : ℕ) → k < length xs → ((j : ℕ) → j < k → getD xs j z ≡ f j) →
-    (j : ℕ) → j < k + 1 → getD (set xs k (f k)) j z ≡ f j
-set-more z f xs k h e j l =
-    elim (bool-cases (eqb j k)) [
-      | inl q ↦ let s : j ≡ k = eqb-true j k q in rw s (getD-set-same xs k (f k) z h)
-      | inr q ↦ let n = eqb-false j k q in getD-set-other xs k j (f k) z n ∙ e j (omega (arith, n))
-    ]
 
 -- sixteen cells, read one by one
 pub cells-read : (cells sums : List ℕ) (p : ℕ) → p ≤ 999 → length cells ≡ 17000 → length sums ≡ 16 → ((j : ℕ) → j < 16 → getD sums j 0 ≡ getD cells (17 * p + j) 0) →

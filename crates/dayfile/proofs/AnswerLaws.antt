@@ -9,6 +9,7 @@ use lib.ListN.{length, getD}
 use borrow.Author.Tests.{leb-true, le-leb, lt-leb}
 use Rattle.numbers.specs.Causes.{unless, orElse, firstOf, ifDone}
 use Rattle.numbers.proofs.TestLaws.{every-holds}
+use Rattle.numbers.proofs.CauseLaws.{else-stop, else-none}
 use Rattle.rules.specs.Entry.{Record, fault}
 use Rattle.rules.specs.Words.{isBook, entries, countOf, roomIn}
 use Rattle.rules.specs.Book.{isClosed, shutTo}
@@ -16,7 +17,6 @@ use Rattle.rules.specs.DayFile.{Item, line, emptyBlock, itemCause, items, lines
 use Rattle.rules.specs.declared.FileRead.{FileRead}
 use Rattle.rules.proofs.WordLaws.{no-fault}
 use Rattle.dayfile.specs.Check.{tableDays, nonePosted, causeBy, firstCause, scanned}
-use Rattle.dayfile.proofs.CheckLaws.{else-stop, else-none}
 
 -- a file is no longer than a file may be
 pub file-bytes : (bs : List ℕ) → isFile bs ≡ true → length bs ≤ 65536

@@ -11,6 +11,7 @@ use lib.Seq.{getD-set-same, getD-set-other}
 use borrow.Author.Tests.{eq-eqb, ne-eqb, eqb-true, eqb-false}
 use Rattle.numbers.specs.Causes.{orElse}
 use Rattle.numbers.proofs.TestLaws.{bool-cases}
+use Rattle.numbers.proofs.CauseLaws.{else-stop, else-none}
 use Rattle.rules.specs.Entry.{Record, key, standing, recordOf}
 use Rattle.rules.specs.Book.{isMarkOf}
 use Rattle.rules.specs.DayFile.{Item, line, emptyBlock, linesOf, headItem}
@@ -33,17 +34,9 @@ module _ (cs : List Bool) (r : Record) {t : ℕ} (type : t ≡ key r .type) wher
         | inr s ↦ rw (← type, ← e, eq-eqb t 21 y, s, or-false (getD cs d false)) (getD-set-other cs day d true false (λ q. eqb-false day d s (sym q)))
       ]
 
-pub else-stop : (c later : ℕ) → (c ≡ 0 → ⊥) → orElse c later ≡ c
-else-stop zero later n = absurd (n refl)
-else-stop (suc c) later n = refl
-
 -- one entry more in the table, one fewer to come
 pub table-step : (a m rest : Bool) {whole before after : Bool} → whole ≡ a || before → before ≡ m || rest → after ≡ a || m → whole ≡ after || rest
 table-step a m rest w b e = w ∙ rw (b, e, or-assoc a m rest)
-
-pub else-none : (c : ℕ) → orElse c 0 ≡ c
-else-none zero = refl
-else-none (suc c) = refl
 
 -- what the next head or line holds, by what was read there
 module _ (bs : List ℕ) (cs : List Bool) (c : Cursor) where

@@ -6,12 +6,13 @@ use Prim.Native.Nat.{ℕ, zero, suc, _+_, _-_, _*_, _≤_}
 use native.Mathlib.Nat.{add-zero}
 use native.Mathlib.Omega.{arith}
 use lib.ListN.{length, take, drop, set, length-append, length-set, take-append-drop}
-use lib.Seq.{take-at, drop-drop, drop-append-add, length-take-le}
+use lib.Seq.{take-at, drop-drop, length-take-le}
 use borrow.Author.Tests.{eq-eqb}
 use Rattle.numbers.specs.Causes.{firstOf}
 use Rattle.numbers.specs.Tests.{all}
 use Rattle.numbers.proofs.TestLaws.{and-split, and-join, all-append}
 use Rattle.numbers.proofs.CauseLaws.{else-split}
+use Rattle.numbers.proofs.ListLaws.{drop-past}
 use Rattle.rules.specs.Entry.{Key, Record, recordOf, standing, legal, fault}
 use Rattle.rules.specs.Words.{word, encode, encodeAll, usedWords, laid, isBook, entries, countOf, coefficientOf, toleranceOf, roomIn}
 use Rattle.rules.specs.Book.{storedAt}
@@ -65,9 +66,6 @@ module _ (bs : List ℕ) (c : Cursor) (more : isMore bs c ≡ true) where
 length-stored : (ws : List ℕ) (at : ℕ) (k : Key) (a : ℕ) → length (storedAt ws at k a) ≡ length ws
 unfolding storedAt
 length-stored ws at k a = simp length-set
-
-drop-past : (p q : List ℕ) (n m : ℕ) → length p ≡ n → drop (n + m) (p ++ q) ≡ drop m q
-drop-past p q n m e = rw (← e) (drop-append-add p q m)
 
 front : (ws : List ℕ) (at : ℕ) (k : Key) (a : ℕ) → at + 5 ≤ length ws → length (take at ws ++ encode (recordOf k standing a)) ≡ at + 5
 unfolding encode

@@ -1,6 +1,6 @@
 -- Laws of a walk of a file's bytes. Assumes nothing.
 use mathlib.Core.Path.{_≡_, refl}
-use mathlib.Core.Logic.{_⊎_, inl, inr}
+use mathlib.Core.Logic.{inl, inr}
 use mathlib.Core.Bool.{true, false, _&&_}
 use mathlib.Core.List.{List, [], _∷_, _++_}
 use Prim.Native.Nat.{ℕ, zero, suc, _+_, _-_, _≤_, _<_}
@@ -9,8 +9,8 @@ use native.Mathlib.Omega.{arith}
 use lib.Dec.{eqb, ltb}
 use lib.ListN.{length, getD, drop, length-drop}
 use lib.Seq.{drop-cons}
-use borrow.Author.Tests.{leb-true, leb-false, le-leb, ltb-true, ltb-false, lt-ltb, le-ltb, eq-eqb, ne-eqb}
-use Rattle.numbers.proofs.TestLaws.{bool-cases}
+use borrow.Author.Tests.{leb-true, leb-false, le-leb, lt-ltb, le-ltb, eq-eqb, ne-eqb}
+use Rattle.numbers.proofs.TestLaws.{below-or-above}
 use Rattle.rules.specs.DayFile.{Item, line, headItem, linesIn, isShaped, itemsFrom, wordsOf}
 use Rattle.fileform.specs.declared.Cursor.{Cursor}
 use Rattle.fileform.specs.Read.{stepAt, wordIn}
@@ -54,9 +54,6 @@ words-end bs at h = no-word (drop at bs) (rw (length-drop at bs) h)
 
 pub some : (n : ℕ) → eqb (suc n) 0 ≡ false
 some n = ne-eqb (suc n) 0 (λ z. absurd (omega arith))
-
-pub below-or-above : (a b : ℕ) → (a < b) ⊎ (b ≤ a)
-below-or-above a b = elim (bool-cases (ltb a b)) [ inl e ↦ inl (ltb-true a b e) | inr e ↦ inr (ltb-false a b e) ]
 
 -- one head or line, and what is left after it
 head-items : (bs : List ℕ) (at p d : ℕ) → at + 8 ≤ length bs → itemsFrom 0 p d (wordsOf (drop at bs)) ≡ headItem (headAt bs at .left) (headAt bs at .party) (headAt bs at .day) [] ++ leftItems bs (headAt bs at)

@@ -1,6 +1,6 @@
 -- Signed figures in the bits of the code. Assumes nothing.
-use mathlib.Core.Path.{_≡_, refl, _∙_, ap, ap₂}
-use Prim.Native.Nat.{zero, suc, _≤_, _<_, _^_}
+use mathlib.Core.Path.{_≡_, _∙_, ap, ap₂}
+use Prim.Native.Nat.{_≤_, _<_, _^_}
 use native.Mathlib.Nat.{le-refl}
 use native.Mathlib.Omega.{arith}
 use lib.IntN.{ℤ, pos, negsuc, natAbs, negℤ, _-ℤ_}
@@ -8,7 +8,7 @@ use lib.Signed.{mag, natAbs-le}
 use mir.Syntax.{w32, w64}
 use mir.Val.{SFits, hbits, toZ, ofZ}
 use mir.ValLaws.{toZ-ofZ}
-use Rattle.numbers.proofs.SignedLaws.{natAbs-add}
+use Rattle.numbers.proofs.SignedLaws.{natAbs-add, natAbs-neg}
 
 -- a number, stored in 32 or in 64 bits and read again
 abbrev pub in32 : ℤ → ℤ
@@ -26,11 +26,6 @@ mag-below (negsuc n) = omega arith
 
 pub fits64 : (z : ℤ) → natAbs z < 2 ^ 63 → SFits w64 z
 fits64 z h = record { sfits = omega (arith, mag-below z) }
-
-natAbs-neg : (z : ℤ) → natAbs (negℤ z) ≡ natAbs z
-natAbs-neg (pos zero) = refl
-natAbs-neg (pos (suc n)) = refl
-natAbs-neg (negsuc n) = refl
 
 pub wide : (z : ℤ) → SFits w32 z → SFits w64 (in32 z)
 wide z f = rw (toZ-ofZ w32 z f) (record { sfits = omega (arith, f .sfits) })

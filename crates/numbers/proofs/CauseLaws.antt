@@ -24,6 +24,14 @@ else-split (suc n) later e = absurd (suc-ne-zero n e)
 pub else-skip : (c later : ℕ) → c ≡ 0 → orElse c later ≡ later
 else-skip c later e = rw e
 
+pub else-stop : (c later : ℕ) → (c ≡ 0 → ⊥) → orElse c later ≡ c
+else-stop zero later n = absurd (n refl)
+else-stop (suc c) later n = refl
+
+pub else-none : (c : ℕ) → orElse c 0 ≡ c
+else-none zero = refl
+else-none (suc c) = refl
+
 -- each cause of a list is none
 abbrev pub Clear : List ℕ → Type 0
 Clear [] = Unit {0}

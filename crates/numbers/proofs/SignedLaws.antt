@@ -7,12 +7,12 @@ use native.Mathlib.Nat.{not-suc-le-zero, le-trans, le-antisymm, le-refl, le-max-
 use native.Mathlib.Numerals.{add-one}
 use native.Mathlib.Omega.{arith}
 use lib.Dec.{T, ltb, leb→le, le→leb, ltb→lt}
-use lib.IntN.{ℤ, pos, negsuc, natAbs, subℕ, _+ℤ_, _-ℤ_}
+use lib.IntN.{ℤ, pos, negsuc, natAbs, negℤ, subℕ, _+ℤ_, _-ℤ_}
 use lib.Signed.{mag, nonNeg, ltZ, leZ, _≤ℤ_, _<ℤ_, leZ-yes, ltZ-yes, ltZ-no, ≤ℤ-refl}
-use borrow.Author.Tests.{ltb-true, ltb-false, lt-ltb, le-ltb}
+use borrow.Author.Tests.{ltb-true, lt-ltb, le-ltb}
 use Rattle.numbers.specs.Sums.{sum}
 use Rattle.numbers.specs.Signed.{isPositive, isNegative, lower, sumℤ}
-use Rattle.numbers.proofs.TestLaws.{bool-cases}
+use Rattle.numbers.proofs.TestLaws.{below-or-above}
 
 -- a difference by cases
 pub sub-above : (a b : ℕ) → b ≤ a → subℕ a b ≡ pos (a - b)
@@ -20,9 +20,6 @@ sub-above a b h = rw (le-ltb a b h)
 
 pub sub-below : (a b : ℕ) → a < b → subℕ a b ≡ negsuc (b - suc a)
 sub-below a b h = rw (lt-ltb a b h)
-
-below-or-above : (a b : ℕ) → (a < b) ⊎ (b ≤ a)
-below-or-above a b = elim (bool-cases (ltb a b)) [ inl e ↦ inl (ltb-true a b e) | inr e ↦ inr (ltb-false a b e) ]
 
 pub pos-le : {m n : ℕ} → m ≤ n → pos m ≤ℤ pos n
 pos-le h = record { le = le→leb _ _ h }
@@ -157,6 +154,11 @@ natAbs-add (pos a) (pos b) = le-refl _
 natAbs-add (pos a) (negsuc b) = omega (arith, natAbs-sub a (suc b))
 natAbs-add (negsuc a) (pos b) = omega (arith, natAbs-sub b (suc a))
 natAbs-add (negsuc a) (negsuc b) = omega arith
+
+pub natAbs-neg : (z : ℤ) → natAbs (negℤ z) ≡ natAbs z
+natAbs-neg (pos zero) = refl
+natAbs-neg (pos (suc n)) = refl
+natAbs-neg (negsuc n) = refl
 
 -- one number more, in the code's form
 pub sumℤ-step : (n : ℕ) (f : ℕ → ℤ) → sumℤ (n + 1) f ≡ sumℤ n f +ℤ f n

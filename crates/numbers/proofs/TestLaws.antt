@@ -1,18 +1,24 @@
 -- Laws of the tests of Tests.antt. Assumes nothing.
-use mathlib.Core.Path.{_≡_, refl, sym, _∙_, ap₂}
+use mathlib.Core.Path.{_≡_, refl, sym, _∙_, ap, ap₂}
 use mathlib.Core.Logic.{_⊎_, inl, inr}
 use mathlib.Core.Bool.{Bool, true, false, _&&_, _||_, false≢true, true≢false}
 use mathlib.Core.List.{List, [], _∷_, _++_}
-use Prim.Native.Nat.{ℕ, zero, suc, _+_, _<_}
+use Prim.Native.Nat.{ℕ, zero, suc, _+_, _≤_, _<_}
 use native.Mathlib.Nat.{le-of-suc-le-suc, not-suc-le-zero, eq-or-lt-of-le}
 use native.Mathlib.Numerals.{add-one}
 use native.Mathlib.Omega.{arith}
-use lib.ListN.{length, getD, set}
+use lib.Dec.{ltb}
+use lib.ListN.{length, getD, set, take, drop, take-append-drop}
+use borrow.Author.Tests.{ltb-true, ltb-false}
 use Rattle.numbers.specs.Tests.{every, all, any, allBelow}
 
 pub bool-cases : (b : Bool) → (b ≡ true) ⊎ (b ≡ false)
 bool-cases true = inl refl
 bool-cases false = inr refl
+
+-- two numbers: the first below the second, or not
+pub below-or-above : (a b : ℕ) → (a < b) ⊎ (b ≤ a)
+below-or-above a b = elim (bool-cases (ltb a b)) [ inl e ↦ inl (ltb-true a b e) | inr e ↦ inr (ltb-false a b e) ]
 
 pub and-split : (a b : Bool) → a && b ≡ true → (a ≡ true) × (b ≡ true)
 and-split true b e = (refl, e)
@@ -100,6 +106,17 @@ module _ {A : Type 0} where
   all-getD f [] e i d h = absurd (not-suc-le-zero h)
   all-getD f (x ∷ xs) e zero d h = and-split (f x) (all f xs) e .0
   all-getD f (x ∷ xs) e (suc i) d h = all-getD f xs (and-split (f x) (all f xs) e .1) i d (le-of-suc-le-suc h)
+
+  -- and past the end, where it holds of what stands there
+  pub getD-holds : (f : A → Bool) (xs : List A) → all f xs ≡ true → (i : ℕ) (d : A) → f d ≡ true → f (getD xs i d) ≡ true
+  unfolding all
+  getD-holds f [] e i d h = h
+  getD-holds f (x ∷ xs) e zero d h = and-split (f x) (all f xs) e .0
+  getD-holds f (x ∷ xs) e (suc i) d h = getD-holds f xs (and-split (f x) (all f xs) e .1) i d h
+
+  pub all-take : (f : A → Bool) (xs : List A) (i : ℕ) → all f xs ≡ true → all f (take i xs) ≡ true
+  all-take f xs i e =
+      and-split (all f (take i xs)) (all f (drop i xs)) (sym (all-append f (take i xs) (drop i xs)) ∙ ap (all f) (take-append-drop i xs) ∙ e) .0
 
   pub all-from : (f : A → Bool) → ((x : A) → f x ≡ true) → (xs : List A) → all f xs ≡ true
   unfolding all

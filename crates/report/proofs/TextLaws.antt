@@ -2,19 +2,18 @@
 use mathlib.Core.Path.{_≡_, refl, sym, _∙_, ap}
 use mathlib.Core.Bool.{Bool, true, false, cond, true≢false}
 use mathlib.Core.List.{List, [], _∷_, _++_}
-use mathlib.Core.Logic.{_⊎_, inl, inr}
+use mathlib.Core.Logic.{inl, inr}
 use Prim.Native.Nat.{ℕ, zero, suc, _+_, _-_, _*_, _/_, _%_, _^_, min, _≤_, _<_}
 use native.Mathlib.Nat.{add-zero, pow-suc}
 use native.Mathlib.Numerals.{add-one}
 use native.Mathlib.Omega.{arith}
-use lib.Dec.{ltb}
 use lib.IntN.{ℤ, pos, negsuc, natAbs}
 use lib.ListN.{length, getD, drop, set, length-append, length-set}
 use lib.Seq.{set-out, drop-cons, length-take-le}
 use Rattle.io.specs.Counts.{Counts}
-use borrow.Author.Tests.{ltb-true, ltb-false, lt-ltb, le-ltb}
+use borrow.Author.Tests.{ltb-true, lt-ltb, le-ltb}
 use Rattle.numbers.specs.Signed.{isNegative}
-use Rattle.numbers.proofs.TestLaws.{bool-cases}
+use Rattle.numbers.proofs.TestLaws.{below-or-above}
 use Rattle.report.specs.Text.{digits, decimal, signed, over, Wrote}
 
 -- text after text
@@ -37,15 +36,12 @@ over-out [] out at h = refl
 over-out (b ∷ s) out at h =
     rw (set-out out at b h) (over-out s out (at + 1) (omega arith))
 
-below-or-above : (a b : ℕ) → (a ≤ b) ⊎ (b < a)
-below-or-above a b = elim (bool-cases (ltb b a)) [ inl e ↦ inr (ltb-true b a e) | inr e ↦ inl (ltb-false b a e) ]
-
 -- laying goes on at the place where it stopped, or at the end
 over-from : (t out : List ℕ) (at : ℕ) → over out (min at (length out)) t ≡ over out at t
 over-from t out at =
     elim (below-or-above at (length out)) [
       | inl h ↦ (let e : min at (length out) ≡ at = omega arith in rw e)
-      | inr h ↦ (let e : min at (length out) ≡ length out = omega arith in rw (e, over-out t out (length out) (omega arith), over-out t out at (omega arith)))
+      | inr h ↦ (let e : min at (length out) ≡ length out = omega arith in rw (e, over-out t out (length out) (omega arith), over-out t out at h))
     ]
 
 module _ {out : List ℕ} {at : ℕ} {s : List ℕ} {next : ℕ} {left : List ℕ} (w : Wrote out at s next left) where
@@ -107,12 +103,12 @@ digits-step n x h = rw (le-ltb x 10 h)
 digits-enough : (n x : ℕ) → x < 10 ^ suc n → digits (suc n) x ≡ digits (suc (suc n)) x
 digits-enough zero x h = one-digit 0 x h ∙ sym (one-digit 1 x h)
 digits-enough (suc n) x h =
-    elim (below-or-above 10 x) [
-      | inl l ↦
+    elim (below-or-above x 10) [
+      | inl l ↦ one-digit (suc n) x l ∙ sym (one-digit (suc (suc n)) x l)
+      | inr l ↦
           digits-step (suc n) x l
           ∙ ap (λ ds. ds ++ ((48 + x % 10) ∷ [])) (digits-enough n (x / 10) (tenth (10 ^ suc n) x (rw pow-suc at h)))
           ∙ sym (digits-step (suc (suc n)) x l)
-      | inr l ↦ one-digit (suc n) x l ∙ sym (one-digit (suc (suc n)) x l)
     ]
   where
     tenth : (y x : ℕ) → x < y * 10 → x / 10 < y

@@ -8,12 +8,13 @@ use native.Mathlib.Numerals.{add-one, add-two, add-three, add-four}
 use native.Mathlib.Omega.{arith}
 use lib.Dec.{eqb, leb, ltb}
 use lib.ListN.{length, getD, take, drop, set, length-append, length-set}
-use lib.Seq.{drop-drop, sets-eq, take-at, drop-append-add}
+use lib.Seq.{drop-drop, sets-eq, take-at}
 use borrow.Author.Tests.{leb-true, ltb-true, eqb-true, le-leb, not-true}
 use Rattle.numbers.specs.Tests.{all}
 use Rattle.numbers.specs.Causes.{unless}
 use Rattle.numbers.proofs.TestLaws.{all-set, and-split, and-join, or-cases, or-right, all-append, all-getD}
 use Rattle.numbers.proofs.CauseLaws.{clear-all, unless-zero, done-else}
+use Rattle.numbers.proofs.ListLaws.{drop-past}
 use Rattle.rules.specs.Entry.{Key, Record, keyOf, recordOf, key, legal, fault, statusOk, markOk, isMark, isStanding, isBilateral, standing, withdrawn, cancelled, markType}
 use Rattle.rules.specs.Words.{word, typeBits, encode, encodeAll, usedWords, laid, isBook, entries, countOf, coefficientOf, toleranceOf, roomIn}
 use Rattle.rules.specs.Book.{openCause, openWords, postCause, posted, postWords, storedAt, entryAt, raised, restatused, withdrawCause, withdrawWords, isStandingAt, shutTo}
@@ -77,9 +78,6 @@ mark-legal d h =
 pub stored-words : (ws : List ℕ) (at : ℕ) (k : Key) (a : ℕ) → at + 5 ≤ length ws → storedAt ws at k a ≡ take at ws ++ encode (recordOf k standing a) ++ drop (at + 5) ws
 unfolding storedAt encode
 stored-words ws at k a h = rw (add-one at, add-two at, add-three at, add-four at) (sets-eq (encode (recordOf k standing a)) ws at h)
-
-drop-past : (p q : List ℕ) (n m : ℕ) → length p ≡ n → drop (n + m) (p ++ q) ≡ drop m q
-drop-past p q n m e = rw (← e) (drop-append-add p q m)
 
 stored-laid : {R TM : ℕ} {rs : List Record} {ws : List ℕ} → Fits R TM rs ws → length rs < roomIn (length ws) → (k : Key) (a : ℕ) → storedAt (laid R TM rs ws) (3 + 5 * length rs) k a ≡ usedWords R TM rs ++ encode (recordOf k standing a) ++ drop (3 + 5 * (length rs + 1)) ws
 unfolding laid

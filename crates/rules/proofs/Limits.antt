@@ -1,23 +1,23 @@
 -- Sums and products over legal figures stay within what the code's integers hold. Assumes nothing.
 use mathlib.Core.Path.{_≡_, refl}
 use mathlib.Core.Logic.{_⊎_, inl, inr}
-use mathlib.Core.Bool.{Bool, true, false, cond, _&&_}
+use mathlib.Core.Bool.{Bool, true, cond, _&&_}
 use mathlib.Core.List.{List, [], _∷_}
 use Prim.Native.Nat.{ℕ, zero, suc, _+_, _-_, _*_, max, _≤_, _<_, zero-le}
-use native.Mathlib.Nat.{le-refl, le-trans, add-le-add, mul-le-mul, mul-le-mul-left, mul-le-mul-right, mul-add, mul-comm}
+use native.Mathlib.Nat.{le-refl, le-trans, add-le-add, mul-le-mul, mul-le-mul-left, mul-le-mul-right, mul-comm}
 use native.Mathlib.Omega.{arith}
 use lib.Dec.{eqb, leb, ltb}
-use lib.IntN.{ℤ, pos, negsuc, natAbs, negℤ, _-ℤ_}
-use lib.ListN.{length, getD}
+use lib.IntN.{pos, natAbs, negℤ, _-ℤ_}
+use lib.ListN.{length}
 use borrow.Author.Tests.{eqb-true, leb-true, ltb-true, ltb-false, lt-ltb, le-ltb, lt-leb}
-use Rattle.numbers.specs.Sums.{sum, total}
+use Rattle.numbers.specs.Sums.{total}
 use Rattle.numbers.specs.Tests.{every, all}
 use Rattle.numbers.specs.Causes.{unless}
 use Rattle.numbers.specs.Signed.{isNegative}
-use Rattle.numbers.proofs.TestLaws.{bool-cases, and-split, or-cases, every-holds}
+use Rattle.numbers.proofs.TestLaws.{bool-cases, and-split, or-cases, every-holds, getD-holds}
 use Rattle.numbers.proofs.CauseLaws.{unless-zero, clear-all}
-use Rattle.numbers.proofs.SumLaws.{total-bound, sum-bound}
-use Rattle.numbers.proofs.SignedLaws.{natAbs-add, natAbs-sub, natAbs-lower, sumℤ-bound}
+use Rattle.numbers.proofs.SumLaws.{cond-limit, cond-below, total-bound-where, sum-bound, sum-times}
+use Rattle.numbers.proofs.SignedLaws.{natAbs-add, natAbs-neg, natAbs-sub, natAbs-lower, sumℤ-bound}
 use Rattle.numbers.proofs.RoundingLaws.{half-up-bound, round-up-bound}
 use Rattle.rules.specs.Refusals.{badParty, badDay, badType, badCounterparty, badAmount, badLength, badFigure}
 use Rattle.rules.specs.Entry.{Key, Label, Record, key, mostVolume, mostMoney, within, isMoney, isType, isMark, isStanding, partyOk, dayOk, counterpartyOk, amountLimit, fault, markOk, statusOk, legal}
@@ -27,20 +27,8 @@ use Rattle.rules.specs.Month.{Tables, monthCause, weightedPrices, weight
 use Rattle.rules.specs.Collateral.{Money, debtOf, debts, moneyOf, tradingDays, debt, quarters, generation, generationMargin, margin, trading, usedMonths, highestPrice, lowestVolume, imbalanceOver, imbalance, risk, yek, totalOf, monthOk, figuresOk}
 use Rattle.rules.specs.declared.Month.{Month}
 use Rattle.rules.specs.declared.Case.{Case}
-use Rattle.rules.proofs.SumOrder.{picked, forTests, toTests, CountsFor, counts-for, counts-to, sale-sums, cover-sums, sale-range, cover-range, in-range, total-le-where}
-
--- one of two numbers within a limit
-cond-limit : (b : Bool) {x y k : ℕ} → (b ≡ true → x ≤ k) → (b ≡ false → y ≤ k) → cond b x y ≤ k
-cond-limit true f g = f refl
-cond-limit false f g = g refl
-
-cond-below : (b : Bool) (x : ℕ) → cond b x 0 ≤ x
-cond-below b x = cond-limit b (λ e. le-refl x) (λ e. zero-le)
-
-pub total-bound-where : {A : Type 0} (ok : A → Bool) (f : A → ℕ) (k : ℕ) → ((x : A) → ok x ≡ true → f x ≤ k) →
-    (xs : List A) → all ok xs ≡ true → total f xs ≤ length xs * k
-total-bound-where ok f k h xs e =
-    le-trans (total-le-where ok f (λ x. k) h xs e) (total-bound (λ x. k) k (λ x. le-refl k) xs)
+use Rattle.rules.proofs.SumOrder.{picked, forTests, toTests, CountsFor, counts-for, counts-to, sale-sums, cover-sums, sale-range, cover-range}
+use Rattle.rules.proofs.WordLaws.{within-true}
 
 -- what a legal record holds is within the limit of its type
 fault-amount : (k : Key) (a : ℕ) → fault k a ≡ 0 → a ≤ amountLimit (k .type)
@@ -192,7 +180,7 @@ module _ (rs : List Record) (ok : all legal rs ≡ true) (few : length rs ≤ mo
       total (λ t. sumOf p d t rs) ts ≤ length ts * 3072000000000
   types-sum p d a b h ts e =
       total-bound-where (within a b) (λ t. sumOf p d t rs) 3072000000000
-      (λ t w. volume-sum p d t (le-trans (in-range a b t w .1) h)) ts e
+      (λ t w. volume-sum p d t (le-trans (within-true a b t w .1) h)) ts e
 
   pub sale-limit : (v : Volume) (p d : ℕ) → saleSide v (tallyOf p d rs) ≤ 18432000000000
   sale-limit v p d =
@@ -219,12 +207,6 @@ module _ (rs : List Record) (ok : all legal rs ≡ true) (few : length rs ≤ mo
       omega (arith, natAbs-sub sale (max (100 * TM) cover), sale-limit v p d, mul-le-mul (cover-limit v p d) h)
 
 -- Month step: the ranges of tables not refused
-pub getD-holds : {A : Type 0} (ok : A → Bool) (xs : List A) → all ok xs ≡ true → (i : ℕ) (d : A) → ok d ≡ true → ok (getD xs i d) ≡ true
-unfolding all
-getD-holds ok [] e i d h = h
-getD-holds ok (x ∷ xs) e zero d h = and-split (ok x) (all ok xs) e .0
-getD-holds ok (x ∷ xs) e (suc i) d h = getD-holds ok xs (and-split (ok x) (all ok xs) e .1) i d h
-
 pub record MonthRanges (m : Tables) : Type 0 where
   pub hours : length (m .prices) ≤ 745
   pub cells : length (m .imbalance) ≡ m .rows * length (m .prices)
@@ -254,22 +236,12 @@ month-ranges m e =
       hours = leb-true _ _ (x .0);
       cells = eqb-true _ _ (x .1 .0);
       dms = eqb-true _ _ (x .1 .1 .0);
-      rows = in-range 1 mostRows (m .rows) (y .0);
+      rows = within-true 1 mostRows (m .rows) (y .0);
       group = ltb-true _ _ (y .1 .0);
       price = λ i. leb-true _ _ (getD-holds (λ price. leb price mostPrice) (m .prices) (y .1 .1 .0) i 0 refl);
       volume = λ row i. leb-true _ _ (getD-holds volumeOk (m .imbalance) (y .1 .1 .1 .0) (row * hours m + i) (pos 0) refl);
       dm = λ i. leb-true _ _ (getD-holds volumeOk (m .dm) (y .1 .1 .1 .1 .0) i (pos 0) refl);
     }
-
-sum-times : (n : ℕ) (f g : ℕ → ℕ) (b : ℕ) → ((k : ℕ) → f k ≤ b * g k) → sum n f ≤ b * sum n g
-unfolding sum
-sum-times zero f g b h = zero-le
-sum-times (suc n) f g b h = rw mul-add (add-le-add (sum-times n f g b h) (h n))
-
-natAbs-neg : (z : ℤ) → natAbs (negℤ z) ≡ natAbs z
-natAbs-neg (pos zero) = refl
-natAbs-neg (pos (suc n)) = refl
-natAbs-neg (negsuc n) = refl
 
 module _ (m : Tables) (r : MonthRanges m) where
   pub weights-limit : weights m ≤ 476800000000
@@ -350,7 +322,7 @@ case-ranges c e =
       rk = leb-true _ _ (k .1 .1 .0);
       rt = leb-true _ _ (k .1 .1 .1 .0);
       yt = leb-true _ _ (k .1 .1 .1 .1 .0);
-      best = in-range 1 10000 _ (k .1 .1 .1 .1 .1 .0);
+      best = within-true 1 10000 _ (k .1 .1 .1 .1 .1 .0);
       score = leb-true _ _ (k .1 .1 .1 .1 .1 .1 .0);
     }
 

@@ -1,7 +1,7 @@
 -- A book against its ledger: the same calls are answered alike, and the book's words show the ledger's records. Assumes nothing.
 use mathlib.Core.Path.{_≡_, refl, sym, ap, ap₂, subst, _∙_, fun-ext}
 use mathlib.Core.Logic.{inl, inr}
-use mathlib.Core.Bool.{Bool, true, false, not, _&&_, false≢true}
+use mathlib.Core.Bool.{Bool, true, false, not, _&&_, and-false, false≢true}
 use mathlib.Core.List.{List, [], _∷_, _++_}
 use Prim.Native.Nat.{ℕ, zero, suc, _+_, _≤_, _<_}
 use native.Mathlib.Omega.{arith}
@@ -76,10 +76,6 @@ never-closed : (d : ℕ) (rs : List Record) → all isKept rs ≡ true → any (
 unfolding all any
 never-closed d [] e = refl
 never-closed d (r ∷ rs) e = let s = and-split (isKept r) (all isKept rs) e in rw (kept-unmarked r (s .0)) (never-closed d rs (s .1))
-
-and-false : (b : Bool) → b && false ≡ false
-and-false true = refl
-and-false false = refl
 
 never-shut : (k : Key) (rs : List Record) → all isKept rs ≡ true → shutTo k rs ≡ false
 unfolding shutTo isClosed

@@ -8,14 +8,16 @@ use native.Mathlib.Nat.{add-le-add, mul-le-mul-left, mul-le-mul-right, max-le, l
 use native.Mathlib.Omega.{arith}
 use lib.Dec.{eqb}
 use lib.Signed.{_≤ℤ_}
-use borrow.Author.Tests.{eqb-true, leb-true}
+use borrow.Author.Tests.{eqb-true}
 use Rattle.numbers.specs.Sums.{total}
 use Rattle.numbers.specs.Tests.{every, all}
-use Rattle.numbers.proofs.TestLaws.{bool-cases, and-split, every-holds}
+use Rattle.numbers.proofs.TestLaws.{bool-cases, every-holds}
 use Rattle.numbers.proofs.SignedLaws.{sub-mono}
+use Rattle.numbers.proofs.SumLaws.{total-le-where}
 use Rattle.rules.specs.Entry.{Label, Record, key, isExport, bilateral, standing, within}
 use Rattle.rules.specs.Balance.{Volume, dayAhead, delivery, counted, countedTo, sumOf, boughtBy, tallyOf, acquired, saleTypes, coverTypes, saleSide, coverSide, balanceOf, balance}
 use Rattle.rules.specs.Compared.{Each, NoWorse, SameWhereNamed}
+use Rattle.rules.proofs.WordLaws.{within-true}
 
 -- records of equal number have equal keys and statuses
 abbrev pub Twins : List Record → List Record → Type 0
@@ -145,17 +147,6 @@ unfolding all
 cover-range delivery = refl
 cover-range dayAhead = refl
 
-pub in-range : (a b t : ℕ) → within a b t ≡ true → (a ≤ t) × (t ≤ b)
-in-range a b t e = let s = and-split _ _ e in (leb-true a t (s .0), leb-true t b (s .1))
-
-pub total-le-where : {A : Type 0} (ok : A → Bool) (f g : A → ℕ) → ((x : A) → ok x ≡ true → f x ≤ g x) →
-    (xs : List A) → all ok xs ≡ true → total f xs ≤ total g xs
-unfolding total all
-total-le-where ok f g h [] e = zero-le
-total-le-where ok f g h (x ∷ xs) e =
-    let s = and-split (ok x) (all ok xs) e in
-    add-le-add (h x (s .0)) (total-le-where ok f g h xs (s .1))
-
 -- sales no larger, cover no smaller
 module _ (p d : ℕ) (rs ss : List Record) (tw : Twins rs ss) (each : Each (NoWorse p d) rs ss) where
   pub lower-sales : (t : ℕ) → 1 ≤ t → t ≤ 6 → sumOf p d t ss ≤ sumOf p d t rs
@@ -176,13 +167,13 @@ module _ (p d : ℕ) (rs ss : List Record) (tw : Twins rs ss) (each : Each (NoWo
   lower-sale-side : (v : Volume) → saleSide v (tallyOf p d ss) ≤ saleSide v (tallyOf p d rs)
   lower-sale-side v =
       rw (sale-sums v p d ss, sale-sums v p d rs)
-      (total-le-where (within 1 6) (λ t. sumOf p d t ss) (λ t. sumOf p d t rs) (λ t e. let (a, b) = in-range 1 6 t e in lower-sales t a b) (saleTypes v) (sale-range v))
+      (total-le-where (within 1 6) (λ t. sumOf p d t ss) (λ t. sumOf p d t rs) (λ t e. let (a, b) = within-true 1 6 t e in lower-sales t a b) (saleTypes v) (sale-range v))
 
   higher-cover-side : (v : Volume) → coverSide v (tallyOf p d rs) (boughtBy p d rs) ≤ coverSide v (tallyOf p d ss) (boughtBy p d ss)
   higher-cover-side v =
       let low : total (λ t. sumOf p d t rs) (coverTypes v) ≤ total (λ t. sumOf p d t ss) (coverTypes v) =
       total-le-where (within 7 14) (λ t. sumOf p d t rs) (λ t. sumOf p d t ss)
-      (λ t e. let (a, b) = in-range 7 14 t e in higher-cover t a (omega arith)) (coverTypes v) (cover-range v) in
+      (λ t e. let (a, b) = within-true 7 14 t e in higher-cover t a (omega arith)) (coverTypes v) (cover-range v) in
       omega (
         arith,
         cover-sums v p d (boughtBy p d rs) rs,

@@ -4,9 +4,10 @@ use Prim.Native.Nat.{_<_, _≤_}
 use lib.ListN.{length}
 use borrow.Author.Tests.{lt-ltb, le-ltb}
 use borrow.Author.Needs.{needs}
+use Rattle.numbers.proofs.CauseLaws.{else-stop}
 use Rattle.rules.specs.Words.{countOf, roomIn}
 use Rattle.rules.specs.Book.{postCause, shutTo}
-use Rattle.book.proofs.Ladder.{passed, failed, stop}
+use Rattle.book.proofs.Ladder.{passed, failed}
 use Rattle.book.proofs.BookCode.{book-long}
 use Rattle.book.proofs.post_cause.Statement.{statement}
 use Rattle.book.proofs.post_cause.Tie as tie
@@ -25,7 +26,7 @@ returns-2 : tie.Need-returns-2
 unfolding postCause
 returns-2 c =
     let b = c .before .before in
-    rw (passed (b .before .is-book .ensures) (b .if1 .left), ← c .before .fault-of .ensures) (stop (c .before .fault-of .result) _ (c .if2 .taken))
+    rw (passed (b .before .is-book .ensures) (b .if1 .left), ← c .before .fault-of .ensures) (sym (else-stop (c .before .fault-of .result) _ (c .if2 .taken)))
 
 shut-to-requires : tie.Need-shut-to-requires
 shut-to-requires c κs =

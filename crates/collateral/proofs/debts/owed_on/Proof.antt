@@ -1,6 +1,6 @@
 -- `collateral::debts::owed_on` meets its contract. Assumes nothing.
 use native.Mathlib.Omega.{arith}
-use Rattle.collateral.proofs.DebtLaws.{picked-below}
+use Rattle.numbers.proofs.SumLaws.{cond-below}
 use borrow.Author.Needs.{needs}
 use Rattle.collateral.proofs.debts.owed_on.Statement.{statement}
 use Rattle.collateral.proofs.debts.owed_on.Tie as tie
@@ -14,7 +14,7 @@ counted-requires-2 c κs = search needs
 add-purchases : tie.Need-add-purchases
 add-purchases c =
     let a = c .before .before .args in
-    omega (arith, picked-below (a .ahead) (a .bought), picked-below (a .intraday) (a .bought-intraday))
+    omega (arith, cond-below (a .ahead) (a .bought), cond-below (a .intraday) (a .bought-intraday))
 
 counted-requires-3 : tie.Need-counted-requires-3
 counted-requires-3 c κs = search needs
@@ -25,7 +25,7 @@ counted-requires-4 c κs = search needs
 add-sales : tie.Need-add-sales
 add-sales c =
     let a = c .before .before .before .before .args in
-    omega (arith, picked-below (a .ahead) (a .sold), picked-below (a .intraday) (a .sold-intraday))
+    omega (arith, cond-below (a .ahead) (a .sold), cond-below (a .intraday) (a .sold-intraday))
 
 sub-result : tie.Need-sub-result
 sub-result c = search needs

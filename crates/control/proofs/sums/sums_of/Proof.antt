@@ -3,7 +3,8 @@ use mathlib.Core.Path.{_≡_, refl, sym, _∙_}
 use Prim.Native.Nat.{ℕ, _+_, _-_, _*_, _≤_, _<_}
 use native.Mathlib.Omega.{arith}
 use lib.ListN.{length, getD, length-set}
-use Rattle.control.proofs.TableLaws.{set-more, cells-read}
+use Rattle.numbers.proofs.ListLaws.{set-more}
+use Rattle.control.proofs.TableLaws.{cells-read}
 use borrow.Author.Needs.{needs}
 use Rattle.control.proofs.sums.sums_of.Statement.{statement}
 use Rattle.control.proofs.sums.sums_of.Tie as tie

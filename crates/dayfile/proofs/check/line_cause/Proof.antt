@@ -4,7 +4,7 @@ use native.Mathlib.Omega.{arith}
 use Rattle.rules.proofs.WordLaws.{no-fault}
 use Rattle.book.proofs.Ladder.{passed, failed}
 use Rattle.dayfile.specs.Check.{causeBy}
-use Rattle.dayfile.proofs.CheckLaws.{else-stop}
+use Rattle.numbers.proofs.CauseLaws.{else-stop}
 use borrow.Author.Needs.{needs}
 use Rattle.dayfile.proofs.check.line_cause.Statement.{statement}
 use Rattle.dayfile.proofs.check.line_cause.Tie as tie
