@@ -1,7 +1,10 @@
 // The tally of a party's day, and both balances (01, 'The two balances').
 ghost use mathlib.Core.Path.{_≡_};
-ghost use Rattle.rules.specs.Balance.{partyDayCause, tallyAnswer, balanceAnswer, isDetected, dayAhead, delivery};
+ghost use mathlib.Core.Bool.{cond};
+ghost use Rattle.position.specs.Bounded.{Bounded};
+ghost use Rattle.rules.specs.Balance.{partyDayCause, tallyAnswer, balanceOf, balanceAnswer, isDetected, dayAhead, delivery};
 use rules::BalanceAnswer;
+use rules::Tally;
 use rules::TallyAnswer;
 
 pub mod parts;
@@ -33,9 +36,20 @@ pub fn tally(book: &[u32], party: u32, day: u32) -> TallyAnswer
     parts::scan(book, party, day)
 }
 
-// Article 7.
-pub fn day_ahead(book: &[u32], party: u32, day: u32) -> BalanceAnswer
-    ensures { λ r. ⌜ r ≡ balanceAnswer dayAhead (now (book .entry)) party day ⌝ }
+// The balance of a tally that was read, for the day-ahead or for delivery.
+fn balance_of(ahead: bool, t: Tally, bought: u64, coefficient: u32, tolerance: u32) -> i64
+    requires { ⌜ Bounded t bought coefficient tolerance ⌝ }
+    ensures { λ r. ⌜ r ≡ balanceOf (cond ahead dayAhead delivery) coefficient tolerance t bought ⌝ }
+{
+    if ahead {
+        return parts::day_ahead_of(t, bought, coefficient, tolerance);
+    }
+    parts::delivery_of(t, bought, coefficient, tolerance)
+}
+
+// One pass over the book for either balance.
+fn balance_with(ahead: bool, book: &[u32], party: u32, day: u32) -> BalanceAnswer
+    ensures { λ r. ⌜ r ≡ balanceAnswer (cond ahead dayAhead delivery) (now (book .entry)) party day ⌝ }
 {
     let cause = cause_of(book, party, day);
     if cause != 0 {
@@ -46,7 +60,8 @@ pub fn day_ahead(book: &[u32], party: u32, day: u32) -> BalanceAnswer
     }
     let read = parts::scan(book, party, day);
     let t = read.tally;
-    let balance = parts::day_ahead_of(
+    let balance = balance_of(
+        ahead,
         t,
         read.bought,
         book::words::coefficient_of(book),
@@ -55,26 +70,18 @@ pub fn day_ahead(book: &[u32], party: u32, day: u32) -> BalanceAnswer
     BalanceAnswer { answer: 0, balance }
 }
 
+// Article 7.
+pub fn day_ahead(book: &[u32], party: u32, day: u32) -> BalanceAnswer
+    ensures { λ r. ⌜ r ≡ balanceAnswer dayAhead (now (book .entry)) party day ⌝ }
+{
+    balance_with(true, book, party, day)
+}
+
 // Article 5.
 pub fn delivery(book: &[u32], party: u32, day: u32) -> BalanceAnswer
     ensures { λ r. ⌜ r ≡ balanceAnswer delivery (now (book .entry)) party day ⌝ }
 {
-    let cause = cause_of(book, party, day);
-    if cause != 0 {
-        return BalanceAnswer {
-            answer: cause,
-            balance: 0,
-        };
-    }
-    let read = parts::scan(book, party, day);
-    let t = read.tally;
-    let balance = parts::delivery_of(
-        t,
-        read.bought,
-        book::words::coefficient_of(book),
-        book::words::tolerance_of(book),
-    );
-    BalanceAnswer { answer: 0, balance }
+    balance_with(false, book, party, day)
 }
 
 // Above zero is detected; zero is clear.

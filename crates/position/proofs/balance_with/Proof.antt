@@ -1,13 +1,14 @@
--- `position::day_ahead` meets its contract. Assumes nothing.
+-- `position::balance_with` meets its contract. Assumes nothing.
 use mathlib.Core.Path.{_∙_}
+use mathlib.Core.Bool.{cond}
 use mir.Syntax.{w64}
 use mir.ValLaws.{toZ-ofZ}
 use borrow.Author.Needs.{needs}
-use Rattle.rules.specs.Balance.{dayAhead}
+use Rattle.rules.specs.Balance.{dayAhead, delivery}
 use Rattle.book.proofs.BookCode.{book-long}
 use Rattle.position.proofs.AnswerLaws.{passes, balance-refused, balance-done, read-bounded}
-use Rattle.position.proofs.day_ahead.Statement.{statement}
-use Rattle.position.proofs.day_ahead.Tie as tie
+use Rattle.position.proofs.balance_with.Statement.{statement}
+use Rattle.position.proofs.balance_with.Tie as tie
 
 cause-of-requires : tie.Need-cause-of-requires
 cause-of-requires c κs = search needs
@@ -16,7 +17,7 @@ returns : tie.Need-returns
 returns c =
     let b = c .before in
     let a = b .before .before .args in
-    balance-refused (a .book .now) (a .party) (a .day) (b .cause-of .ensures) dayAhead (c .if1 .taken)
+    balance-refused (a .book .now) (a .party) (a .day) (b .cause-of .ensures) (cond (a .ahead) dayAhead delivery) (c .if1 .taken)
 
 scan-requires : tie.Need-scan-requires
 scan-requires c κs =
@@ -41,8 +42,8 @@ tolerance-of-requires c κs =
     let p = passes (a .book .now) (a .party) (a .day) (b .cause-of .ensures) (i .if1 .left) in
     book-long (a .book .now) (p .is-book)
 
-day-ahead-of-requires : tie.Need-day-ahead-of-requires
-day-ahead-of-requires c κs =
+balance-of-requires : tie.Need-balance-of-requires
+balance-of-requires c κs =
     let i = c .before .before .before .before in
     let b = i .before in
     let a = b .before .before .args in
@@ -54,11 +55,11 @@ returns-2 c =
     let r = c .before .before .before .before in
     let b = r .before .before in
     let a = b .before .before .args in
-    balance-done (a .book .now) (a .party) (a .day) (b .cause-of .ensures) dayAhead (r .before .if1 .left) (r .scan .ensures) (c .before .before .coefficient-of .ensures) (c .before .tolerance-of .ensures)
-    (toZ-ofZ w64 (c .day-ahead-of .result) (record { sfits = c .day-ahead-of .ok }) ∙ c .day-ahead-of .ensures)
+    balance-done (a .book .now) (a .party) (a .day) (b .cause-of .ensures) (cond (a .ahead) dayAhead delivery) (r .before .if1 .left) (r .scan .ensures) (c .before .before .coefficient-of .ensures) (c .before .tolerance-of .ensures)
+    (toZ-ofZ w64 (c .balance-of .result) (record { sfits = c .balance-of .ok }) ∙ c .balance-of .ensures)
 
-pub day-ahead-spec : {M : Type 1} → statement M
-day-ahead-spec =
+pub balance-with-spec : {M : Type 1} → statement M
+balance-with-spec =
     tie.close
     (tie.spec
     cause-of-requires
@@ -66,5 +67,5 @@ day-ahead-spec =
     scan-requires
     coefficient-of-requires
     tolerance-of-requires
-    day-ahead-of-requires
+    balance-of-requires
     returns-2)
