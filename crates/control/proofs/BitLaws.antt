@@ -1,5 +1,5 @@
 -- Bits of a table, 64 to a word: what is read after a bit is set. Assumes nothing.
-use mathlib.Core.Path.{_≡_, refl, sym, ap, _∙_}
+use mathlib.Core.Path.{_≡_, sym, ap, _∙_}
 use mathlib.Core.Logic.{inl, inr}
 use mathlib.Core.Bool.{Bool, true, false, _||_}
 use mathlib.Core.List.{List}
@@ -13,6 +13,7 @@ use lib.ListN.{length, getD, set, replicate, length-set}
 use lib.Seq.{getD-set-same, getD-set-other}
 use borrow.Author.Tests.{eqb-true, eqb-false, eq-eqb, ne-eqb, leb-true, leb-false}
 use Rattle.numbers.proofs.TestLaws.{bool-cases}
+use Rattle.numbers.proofs.ListLaws.{getD-blank}
 use Rattle.control.specs.Tables.{mostBits, bitAt, withBit}
 
 -- whether bit n of a number is set
@@ -82,14 +83,9 @@ bit-after words k j long h =
           | inr e ↦ let s = eqb-false k j e in rw e (ne-eqb (k % 64) (j % 64) (λ t. s (omega arith)))
         ]
 
-no-word : (n i : ℕ) → _≡_ {A = ℕ} (getD (replicate n 0) i 0) 0
-no-word zero i = refl
-no-word (suc n) zero = refl
-no-word (suc n) (suc i) = no-word n i
-
 pub no-bit : (n j : ℕ) → bitAt (replicate n 0) j ≡ false
 unfolding bitAt
-no-bit n j = rw (no-word n (j / 64)) (ap (λ k. eqb (k % 2) 1) (div-eq-of-lt (pow-pos (j % 64))))
+no-bit n j = rw (getD-blank {A = ℕ} n (j / 64) 0) (ap (λ k. eqb (k % 2) 1) (div-eq-of-lt (pow-pos (j % 64))))
 
 -- the word that the code stores
 pub bit-stored : (words : List ℕ) (k : ℕ) → set words (k / 64) (bitOr (getD words (k / 64) 0) (1 * 2 ^ (k % 64) % 2 ^ 64)) ≡ withBit words k
