@@ -112,10 +112,14 @@ module _ (ps vs ds : List ℕ) (rows group : ℕ) where
     unfolding monthCause
     many-rows h = sym (month-cause 11 (rw (length-words ps, length-figures vs, length-figures ds, agree, le-leb 1 rows (omega arith), lt-leb rows 64 h))) ∙ on-tables
 
-    -- the longest tables
-    pub tables-within : rows ≤ 64 → Within ps vs ds 745 47680 745
-    tables-within h =
-        let hours = leb-true (length ps / 4) 745 (holds .0) in
-        let v = eqb-true (length vs / 4) (rows * (length ps / 4)) (holds .1 .1 .1 .1 .0) in
+    -- tables of so many figures, and the most
+    pub tables-within : (n : ℕ) → length vs / 4 ≤ n → Within ps vs ds 745 n 745
+    tables-within n h =
         let d = eqb-true (length ds / 4) (length ps / 4) (holds .1 .1 .1 .1 .1 .0) in
-        record { prices = hours; imbalance = omega (arith, mul-le-mul h hours); dm = omega arith }
+        let hours = leb-true (length ps / 4) 745 (holds .0) in
+        record { prices = hours; imbalance = h; dm = omega arith }
+
+    pub most-figures : rows ≤ 64 → length vs / 4 ≤ 47680
+    most-figures h =
+        let v = eqb-true (length vs / 4) (rows * (length ps / 4)) (holds .1 .1 .1 .1 .0) in
+        omega (arith, mul-le-mul h (leb-true (length ps / 4) 745 (holds .0)))

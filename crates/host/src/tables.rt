@@ -89,6 +89,45 @@ fn step_within(
     )
 }
 
+// The same with arrays for one group's figures, and for the most groups'.
+fn step_small(prices: &[u8], imbalance: &[u8], rows: u32, dm: &[u8], group: u32) -> MonthAnswer
+    requires { ⌜ Within (now prices) (now imbalance) (now dm) 745 745 745 ⌝ }
+    ensures { λ r. ⌜ r ≡ monthAnswer (tablesIn (now (prices .entry)) (now (imbalance .entry)) rows (now (dm .entry)) group) ⌝ }
+{
+    let mut words = [0u32; HOURS];
+    let mut volumes = [0i32; HOURS];
+    let mut controls = [0i32; HOURS];
+    step_within(
+        prices,
+        imbalance,
+        rows,
+        dm,
+        group,
+        &mut words,
+        &mut volumes,
+        &mut controls,
+    )
+}
+
+fn step_large(prices: &[u8], imbalance: &[u8], rows: u32, dm: &[u8], group: u32) -> MonthAnswer
+    requires { ⌜ Within (now prices) (now imbalance) (now dm) 745 47680 745 ⌝ }
+    ensures { λ r. ⌜ r ≡ monthAnswer (tablesIn (now (prices .entry)) (now (imbalance .entry)) rows (now (dm .entry)) group) ⌝ }
+{
+    let mut words = [0u32; HOURS];
+    let mut volumes = [0i32; FIGURES];
+    let mut controls = [0i32; HOURS];
+    step_within(
+        prices,
+        imbalance,
+        rows,
+        dm,
+        group,
+        &mut words,
+        &mut volumes,
+        &mut controls,
+    )
+}
+
 // Lengths that do not agree, or more rows than 64, are refused before the tables are read.
 #[no_mangle]
 pub extern "C" fn fanzsoreb_month(
@@ -106,17 +145,8 @@ pub extern "C" fn fanzsoreb_month(
     if rows > ROWS {
         return refused(12);
     }
-    let mut words = [0u32; HOURS];
-    let mut volumes = [0i32; FIGURES];
-    let mut controls = [0i32; HOURS];
-    step_within(
-        prices,
-        imbalance,
-        rows,
-        dm,
-        group,
-        &mut words,
-        &mut volumes,
-        &mut controls,
-    )
+    if imbalance.len() / 4 > HOURS {
+        return step_large(prices, imbalance, rows, dm, group);
+    }
+    step_small(prices, imbalance, rows, dm, group)
 }

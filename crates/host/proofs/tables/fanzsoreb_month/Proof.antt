@@ -5,7 +5,7 @@ use borrow.Author.Needs.{needs}
 use borrow.Author.Tests.{not-true, not-false}
 use lib.ListN.{length}
 use Rattle.host.specs.Coding.{lengthsOk}
-use Rattle.host.proofs.TableLaws.{bad-lengths, many-rows, tables-within, on-tables}
+use Rattle.host.proofs.TableLaws.{bad-lengths, many-rows, tables-within, most-figures, on-tables}
 use Rattle.host.proofs.tables.fanzsoreb_month.Statement.{statement}
 use Rattle.host.proofs.tables.fanzsoreb_month.Tie as tie
 
@@ -38,26 +38,29 @@ returns-2 c =
     let a = start e .args in
     c .refused2 .ensures ∙ many-rows (a .prices .now) (a .imbalance .now) (a .dm .now) (a .rows) (a .group) (passed e) (c .before .if2 .taken)
 
-slice-aggregate-step-within : tie.Need-slice-aggregate-step-within
-slice-aggregate-step-within c = search needs
-
-slice-aggregate-step-within-2 : tie.Need-slice-aggregate-step-within-2
-slice-aggregate-step-within-2 c = search needs
-
-slice-aggregate-step-within-3 : tie.Need-slice-aggregate-step-within-3
-slice-aggregate-step-within-3 c = search needs
-
-step-within-requires : tie.Need-step-within-requires
-step-within-requires c κs =
-    let e = c .before .before .before .before in
+step-large-requires : tie.Need-step-large-requires
+step-large-requires c κs =
+    let e = c .before .before in
     let a = start e .args in
-    tables-within (a .prices .now) (a .imbalance .now) (a .dm .now) (a .rows) (a .group) (passed e) (c .before .before .before .if2 .left)
+    tables-within (a .prices .now) (a .imbalance .now) (a .dm .now) (a .rows) (a .group) (passed e) 47680 (most-figures (a .prices .now) (a .imbalance .now) (a .dm .now) (a .rows) (a .group) (passed e) (c .before .if2 .left))
 
 returns-3 : tie.Need-returns-3
 returns-3 c =
-    let e = c .before .before .before .before .before .before .before .before in
+    let e = c .before .before .before in
     let a = start e .args in
-    c .before .before .before .step-within .ensures ∙ on-tables (a .prices .now) (a .imbalance .now) (a .dm .now) (a .rows) (a .group) (passed e)
+    c .step-large .ensures ∙ on-tables (a .prices .now) (a .imbalance .now) (a .dm .now) (a .rows) (a .group) (passed e)
+
+step-small-requires : tie.Need-step-small-requires
+step-small-requires c κs =
+    let e = c .before .before in
+    let a = start e .args in
+    tables-within (a .prices .now) (a .imbalance .now) (a .dm .now) (a .rows) (a .group) (passed e) 745 (c .if3 .left)
+
+returns-4 : tie.Need-returns-4
+returns-4 c =
+    let e = c .before .before .before in
+    let a = start e .args in
+    c .step-small .ensures ∙ on-tables (a .prices .now) (a .imbalance .now) (a .dm .now) (a .rows) (a .group) (passed e)
 
 pub fanzsoreb-month-spec : {M : Type 1} → statement M
 fanzsoreb-month-spec =
@@ -68,8 +71,7 @@ fanzsoreb-month-spec =
     returns
     refused-requires-2
     returns-2
-    slice-aggregate-step-within
-    slice-aggregate-step-within-2
-    slice-aggregate-step-within-3
-    step-within-requires
-    returns-3)
+    step-large-requires
+    returns-3
+    step-small-requires
+    returns-4)
