@@ -5,7 +5,7 @@ use mathlib.Core.Bool.{true}
 use mathlib.Core.List.{List, []}
 use Prim.Native.Nat.{ℕ, _%_}
 use lib.IntN.{pos}
-use lib.ListN.{length}
+use lib.ListN.{length, take}
 use borrow.Author.Tests.{ne-eqb}
 use Rattle.numbers.proofs.CauseLaws.{done-else}
 use Rattle.rules.specs.Refusals.{notABook}
@@ -19,59 +19,60 @@ use Rattle.rules.specs.declared.Case.{Case}
 use Rattle.rules.specs.Book.{openCause, openWords, postCause, postAnswer, postWords, withdrawCause, withdrawWords, countCause, countAnswer, noRead, readCause, readAnswer}
 use Rattle.rules.proofs.BookLaws.{open-refused, post-refused, withdraw-refused}
 use Rattle.host.specs.Bytes.{isWhole, onWords, withWords, yesNo}
-use Rattle.host.specs.Coding.{mostWords, wordsIn}
+use Rattle.host.specs.Coding.{mostWords, Decoded}
 use Rattle.host.proofs.CutLaws.{cut-long, same-count, same-entry, same-post, same-withdraw, same-tally, same-balance, same-collateral, same-control, same-file, cut-open, cut-post, cut-withdraw, cut-control, cut-file}
 use Rattle.host.proofs.CodingLaws.{Call, full, words-whole, words-cut, on-words}
 
-module _ (bs : List ℕ) where
-  pub on-is-book : yesNo (isBook (wordsIn bs)) ≡ onWords bs (λ ws. yesNo (isBook ws)) 0
+module _ {bs ws : List ℕ} {n : ℕ} (r : Decoded bs ws n) where
+  pub on-is-book : yesNo (isBook (take n ws)) ≡ onWords bs (λ us. yesNo (isBook us)) 0
   unfolding isBook
-  on-is-book = on-words bs (λ ws. yesNo (isBook ws)) 0 refl (ap yesNo (words-cut bs .is-book))
+  on-is-book = on-words r (λ us. yesNo (isBook us)) 0 refl (ap yesNo (words-cut bs .is-book))
 
+  pub on-open : (R TM : ℕ) → isWhole bs ≡ true → openCause (length (take n ws)) R TM ≡ onWords bs (λ us. openCause (length us) R TM) notABook
+  unfolding onWords openCause
+  on-open R TM w = rw (r .read, w, words-whole bs w, cut-long mostWords full (wordsOf bs))
+
+  pub on-count : countAnswer (take n ws) ≡ onWords bs countAnswer (record { answer = notABook; count = 0 })
+  unfolding isBook countCause countAnswer
+  on-count = on-words r countAnswer _ refl (same-count (words-cut bs))
+
+  pub on-entry : (k : ℕ) → readAnswer (take n ws) k ≡ onWords bs (λ us. readAnswer us k) (noRead notABook)
+  unfolding isBook readCause readAnswer
+  on-entry k = on-words r (λ us. readAnswer us k) _ refl (same-entry (words-cut bs) k)
+
+  pub on-post : (k : Key) (a : ℕ) → postAnswer (take n ws) k a ≡ onWords bs (λ us. postAnswer us k a) (record { answer = notABook; number = 0 })
+  unfolding isBook postCause postAnswer
+  on-post k a = on-words r (λ us. postAnswer us k a) _ refl (same-post (words-cut bs) k a)
+
+  pub on-withdraw : (k : ℕ) → withdrawCause (take n ws) k ≡ onWords bs (λ us. withdrawCause us k) notABook
+  unfolding isBook withdrawCause
+  on-withdraw k = on-words r (λ us. withdrawCause us k) _ refl (same-withdraw (words-cut bs) k)
+
+  pub on-tally : (p d : ℕ) → tallyAnswer (take n ws) p d ≡ onWords bs (λ us. tallyAnswer us p d) (record { answer = notABook; tally = noTally; bought = 0 })
+  unfolding isBook partyDayCause tallyAnswer
+  on-tally p d = on-words r (λ us. tallyAnswer us p d) _ refl (same-tally (words-cut bs) p d)
+
+  pub on-balance : (v : Volume) (p d : ℕ) → balanceAnswer v (take n ws) p d ≡ onWords bs (λ us. balanceAnswer v us p d) (record { answer = notABook; balance = pos 0 })
+  unfolding isBook partyDayCause balanceAnswer
+  on-balance v p d = on-words r (λ us. balanceAnswer v us p d) _ refl (same-balance (words-cut bs) v p d)
+
+  pub on-collateral : (k : Case) → collateralAnswer (take n ws) k ≡ onWords bs (λ us. collateralAnswer us k) (refusedCollateral notABook)
+  unfolding isBook partyDayCause collateralCause collateralAnswer
+  on-collateral k = on-words r (λ us. collateralAnswer us k) _ refl (same-collateral (words-cut bs) k)
+
+  pub on-control : (d : ℕ) → controlAnswer (take n ws) d ≡ onWords bs (λ us. controlAnswer us d) (record { answer = notABook; first = 0; second = 0; cancelled = 0 })
+  unfolding isBook controlCause controlAnswer
+  on-control d = on-words r (λ us. controlAnswer us d) _ refl (same-control (words-cut bs) d)
+
+  pub on-file : (file : List ℕ) → fileAnswer (take n ws) file ≡ onWords bs (λ us. fileAnswer us file) (record { answer = notABook; posted = 0 })
+  unfolding isBook fileCause fileAnswer
+  on-file file = on-words r (λ us. fileAnswer us file) _ refl (same-file (words-cut bs) file)
+
+module _ (bs : List ℕ) where
   -- opening answers 1 where the bytes make no whole words, though no words are 11
   pub open-odd : (R TM : ℕ) → length bs % 4 ≢ 0 → (notABook ≡ onWords bs (λ ws. openCause (length ws) R TM) notABook) × (bs ≡ withWords bs (λ ws. openWords ws R TM))
   unfolding onWords withWords
   open-odd R TM h = rw (ne-eqb (length bs % 4) 0 h) (refl, refl)
-
-  pub on-open : (R TM : ℕ) → isWhole bs ≡ true → openCause (length (wordsIn bs)) R TM ≡ onWords bs (λ ws. openCause (length ws) R TM) notABook
-  unfolding onWords openCause
-  on-open R TM w = rw (w, words-whole bs w, cut-long mostWords full (wordsOf bs))
-
-  pub on-count : countAnswer (wordsIn bs) ≡ onWords bs countAnswer (record { answer = notABook; count = 0 })
-  unfolding isBook countCause countAnswer
-  on-count = on-words bs countAnswer _ refl (same-count (words-cut bs))
-
-  pub on-entry : (n : ℕ) → readAnswer (wordsIn bs) n ≡ onWords bs (λ ws. readAnswer ws n) (noRead notABook)
-  unfolding isBook readCause readAnswer
-  on-entry n = on-words bs (λ ws. readAnswer ws n) _ refl (same-entry (words-cut bs) n)
-
-  pub on-post : (k : Key) (a : ℕ) → postAnswer (wordsIn bs) k a ≡ onWords bs (λ ws. postAnswer ws k a) (record { answer = notABook; number = 0 })
-  unfolding isBook postCause postAnswer
-  on-post k a = on-words bs (λ ws. postAnswer ws k a) _ refl (same-post (words-cut bs) k a)
-
-  pub on-withdraw : (n : ℕ) → withdrawCause (wordsIn bs) n ≡ onWords bs (λ ws. withdrawCause ws n) notABook
-  unfolding isBook withdrawCause
-  on-withdraw n = on-words bs (λ ws. withdrawCause ws n) _ refl (same-withdraw (words-cut bs) n)
-
-  pub on-tally : (p d : ℕ) → tallyAnswer (wordsIn bs) p d ≡ onWords bs (λ ws. tallyAnswer ws p d) (record { answer = notABook; tally = noTally; bought = 0 })
-  unfolding isBook partyDayCause tallyAnswer
-  on-tally p d = on-words bs (λ ws. tallyAnswer ws p d) _ refl (same-tally (words-cut bs) p d)
-
-  pub on-balance : (v : Volume) (p d : ℕ) → balanceAnswer v (wordsIn bs) p d ≡ onWords bs (λ ws. balanceAnswer v ws p d) (record { answer = notABook; balance = pos 0 })
-  unfolding isBook partyDayCause balanceAnswer
-  on-balance v p d = on-words bs (λ ws. balanceAnswer v ws p d) _ refl (same-balance (words-cut bs) v p d)
-
-  pub on-collateral : (k : Case) → collateralAnswer (wordsIn bs) k ≡ onWords bs (λ ws. collateralAnswer ws k) (refusedCollateral notABook)
-  unfolding isBook partyDayCause collateralCause collateralAnswer
-  on-collateral k = on-words bs (λ ws. collateralAnswer ws k) _ refl (same-collateral (words-cut bs) k)
-
-  pub on-control : (d : ℕ) → controlAnswer (wordsIn bs) d ≡ onWords bs (λ ws. controlAnswer ws d) (record { answer = notABook; first = 0; second = 0; cancelled = 0 })
-  unfolding isBook controlCause controlAnswer
-  on-control d = on-words bs (λ ws. controlAnswer ws d) _ refl (same-control (words-cut bs) d)
-
-  pub on-file : (file : List ℕ) → fileAnswer (wordsIn bs) file ≡ onWords bs (λ ws. fileAnswer ws file) (record { answer = notABook; posted = 0 })
-  unfolding isBook fileCause fileAnswer
-  on-file file = on-words bs (λ ws. fileAnswer ws file) _ refl (same-file (words-cut bs) file)
 
   -- the calls that write
   pub no-open : (R TM : ℕ) → openWords [] R TM ≡ []

@@ -80,9 +80,10 @@ pub words-cut : (bs : List ℕ) → SameCalls (take mostWords (wordsOf bs)) (wor
 words-cut bs = cut-same mostWords full (wordsOf bs)
 
 -- on them a call answers as on the bytes: no words are no book
-pub on-words : {A : Type 0} (bs : List ℕ) (f : List ℕ → A) (refused : A) → f [] ≡ refused → f (take mostWords (wordsOf bs)) ≡ f (wordsOf bs) → f (wordsIn bs) ≡ onWords bs f refused
+pub on-words : {A : Type 0} {bs ws : List ℕ} {n : ℕ} → Decoded bs ws n → (f : List ℕ → A) (refused : A) → f [] ≡ refused → f (take mostWords (wordsOf bs)) ≡ f (wordsOf bs) → f (take n ws) ≡ onWords bs f refused
 unfolding onWords wordsIn
-on-words bs f refused e c = elim (bool-cases (isWhole bs)) [ inl w ↦ rw w c | inr w ↦ rw w e ]
+on-words {bs = bs} r f refused e c =
+    ap f (r .read) ∙ elim (bool-cases (isWhole bs)) [ inl w ↦ rw w c | inr w ↦ rw w e ]
 
 -- the words that the code reads have the bytes that it read
 pub same-bytes : (bs : List ℕ) → Bytes bs → overBytes (wordsIn bs) bs ≡ bs
@@ -119,27 +120,18 @@ with-words bs f b l = go (isWhole bs) refl
     go false w = rw (w, words-none bs w, f .none) (over-none bs)
     go true w = rw (w, words-whole bs w) (over-cut bs f b w (rw (words-whole bs w) at l))
 
--- the code's steps: n words read, of which the call leaves vs
-pub record Steps {bs : List ℕ} (f : Call bs) (ws vs : List ℕ) (n answer : ℕ) : Type 0 where
-  pub bytes : Bytes bs
-  pub read : Decoded bs ws n
-  pub array : length ws ≡ 15363
-  pub kept : length vs ≡ length (take n ws)
-  pub left : vs ≡ f .leaves (take n ws)
-  pub answered : answer ≡ f .cause (take n ws)
-
 written : (c : ℕ) (ws vs bs : List ℕ) → overBytes ws bs ≡ bs → (c ≢ 0 → vs ≡ ws) → ifDone c (overBytes vs bs) bs ≡ overBytes vs bs
 written zero ws vs bs e h = refl
 written (suc c) ws vs bs e h = sym (ap (λ us. overBytes us bs) (h (suc-ne-zero c)) ∙ e)
 
--- written back where the answer is 0
-pub written-bytes : {bs : List ℕ} (f : Call bs) (ws vs : List ℕ) (n answer : ℕ) → Steps f ws vs n answer → ifDone answer (overBytes (take n (vs ++ drop n ws)) bs) bs ≡ withWords bs (f .leaves)
-written-bytes {bs} f ws vs n answer s =
-    let read = s .read .read in
-    let a : answer ≡ f .cause (wordsIn bs) = s .answered ∙ ap (f .cause) read in
-    let v : take n (vs ++ drop n ws) ≡ f .leaves (wordsIn bs) = take-at vs (drop n ws) n (s .kept ∙ sym (taken n 15363 ws (s .read .most) (s .array))) ∙ s .left ∙ ap (f .leaves) read in
-    rw (a, v) (written (f .cause (wordsIn bs)) (wordsIn bs) (f .leaves (wordsIn bs)) bs (same-bytes bs (s .bytes)) (f .refused (wordsIn bs)))
-    ∙ with-words bs f (s .bytes) (ap length (sym (s .left ∙ ap (f .leaves) read)) ∙ s .kept ∙ ap length read)
+-- n words read, of which the call leaves vs, written back where the answer is 0
+pub written-bytes : {bs ws vs : List ℕ} {n answer : ℕ} (f : Call bs) → Bytes bs → Decoded bs ws n → length ws ≡ 15363 → length vs ≡ length (take n ws) → vs ≡ f .leaves (take n ws) → answer ≡ f .cause (take n ws) → ifDone answer (overBytes (take n (vs ++ drop n ws)) bs) bs ≡ withWords bs (f .leaves)
+written-bytes {bs} {ws} {vs} {n} {answer} f bytes d array kept left answered =
+    let read = d .read in
+    let a : answer ≡ f .cause (wordsIn bs) = answered ∙ ap (f .cause) read in
+    let v : take n (vs ++ drop n ws) ≡ f .leaves (wordsIn bs) = take-at vs (drop n ws) n (kept ∙ sym (taken n 15363 ws (d .most) array)) ∙ left ∙ ap (f .leaves) read in
+    rw (a, v) (written (f .cause (wordsIn bs)) (wordsIn bs) (f .leaves (wordsIn bs)) bs (same-bytes bs bytes) (f .refused (wordsIn bs)))
+    ∙ with-words bs f bytes (ap length (sym (left ∙ ap (f .leaves) read)) ∙ kept ∙ ap length read)
 
 pub yes-byte : (b : Bool) → boolByte b ≡ yesNo b
 yes-byte true = refl

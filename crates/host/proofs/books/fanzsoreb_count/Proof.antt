@@ -1,7 +1,6 @@
 -- `host::books::fanzsoreb_count` meets its contract. Assumes nothing.
-use mathlib.Core.Path.{_∙_, ap}
+use mathlib.Core.Path.{_∙_}
 use borrow.Author.Needs.{needs}
-use Rattle.rules.specs.Book.{countAnswer}
 use Rattle.host.proofs.CodingLaws.{parts}
 use Rattle.host.proofs.CallLaws.{on-count}
 use Rattle.host.proofs.books.fanzsoreb_count.Statement.{statement}
@@ -23,10 +22,7 @@ count-requires : tie.Need-count-requires
 count-requires c κs = search needs
 
 returns : tie.Need-returns
-returns c =
-    let d = c .before .before .before in
-    let s = d .before .before .before in
-    c .count .ensures ∙ ap (countAnswer) (d .decode .ensures .read) ∙ on-count (s .args .book .now)
+returns c = c .count .ensures ∙ on-count (c .before .before .before .decode .ensures)
 
 pub fanzsoreb-count-spec : {M : Type 1} → statement M
 fanzsoreb-count-spec =

@@ -1,7 +1,6 @@
 -- `host::books::fanzsoreb_entry` meets its contract. Assumes nothing.
-use mathlib.Core.Path.{_∙_, ap}
+use mathlib.Core.Path.{_∙_}
 use borrow.Author.Needs.{needs}
-use Rattle.rules.specs.Book.{readAnswer}
 use Rattle.host.proofs.CodingLaws.{parts}
 use Rattle.host.proofs.CallLaws.{on-entry}
 use Rattle.host.proofs.books.fanzsoreb_entry.Statement.{statement}
@@ -25,9 +24,8 @@ entry-requires c κs = search needs
 returns : tie.Need-returns
 returns c =
     let d = c .before .before .before in
-    let s = d .before .before .before in
-    let number = s .args .number in
-    c .entry .ensures ∙ ap (λ ws. readAnswer ws number) (d .decode .ensures .read) ∙ on-entry (s .args .book .now) number
+    let a = d .before .before .before .args in
+    c .entry .ensures ∙ on-entry (d .decode .ensures) (a .number)
 
 pub fanzsoreb-entry-spec : {M : Type 1} → statement M
 fanzsoreb-entry-spec =

@@ -1,9 +1,7 @@
 -- `host::books::fanzsoreb_is_book` meets its contract. Assumes nothing.
 use mathlib.Core.Path.{_∙_, ap}
 use borrow.Author.Needs.{needs}
-use mir.Val.{boolByte}
-use Rattle.rules.specs.Words.{isBook}
-use Rattle.host.specs.Coding.{wordsIn}
+use Rattle.host.specs.Bytes.{yesNo}
 use Rattle.host.proofs.CodingLaws.{parts, yes-byte}
 use Rattle.host.proofs.CallLaws.{on-is-book}
 use Rattle.host.proofs.books.fanzsoreb_is_book.Statement.{statement}
@@ -29,10 +27,7 @@ cast-result c = search needs
 
 returns : tie.Need-returns
 returns c =
-    let bs = c .before .before .before .before .before .before .args .book .now in
-    ap boolByte (c .is-book .ensures ∙ ap isBook (c .before .before .before .decode .ensures .read))
-    ∙ yes-byte (isBook (wordsIn bs))
-    ∙ on-is-book bs
+    yes-byte (c .is-book .result) ∙ ap yesNo (c .is-book .ensures) ∙ on-is-book (c .before .before .before .decode .ensures)
 
 pub fanzsoreb-is-book-spec : {M : Type 1} → statement M
 fanzsoreb-is-book-spec =

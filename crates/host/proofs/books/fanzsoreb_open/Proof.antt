@@ -1,9 +1,7 @@
 -- `host::books::fanzsoreb_open` meets its contract. Assumes nothing.
-use mathlib.Core.Path.{_∙_, ap}
+use mathlib.Core.Path.{_∙_}
 use borrow.Author.Needs.{needs}
 use borrow.Author.Tests.{eq-eqb}
-use lib.ListN.{length}
-use Rattle.rules.specs.Book.{openCause}
 use Rattle.host.proofs.CodingLaws.{parts, written-bytes}
 use Rattle.host.proofs.CallLaws.{open-odd, on-open, openCall}
 use Rattle.host.proofs.books.fanzsoreb_open.Statement.{statement}
@@ -47,19 +45,11 @@ returns-2 c =
     let p = c .before .before .before .before .before .before in
     let d = p .before .before .before .decode in
     let s = p .before .before .before .before .before .before .before .before in
-    let bs = s .args .book .now in
     let R = s .args .coefficient in
     let TM = s .args .tolerance in (
-      p .«open» .ensures .0 ∙ ap (λ ws. openCause (length ws) R TM) (d .ensures .read) ∙ on-open bs R TM (eq-eqb _ _ (p .before .before .before .before .before .before .if1 .left)),
+      p .«open» .ensures .0 ∙ on-open (d .ensures) R TM (eq-eqb _ _ (p .before .before .before .before .before .before .if1 .left)),
       c .before .before .write-back .ensures
-          ∙ written-bytes (openCall bs R TM) (d .last .1 .0) (p .«open» .last .0) (d .result) _ (record {
-            bytes = λ i. p .before .before .before .before .before .before .before .slice-known .given i .fits;
-            read = d .ensures;
-            array = d .kept .1 .0;
-            kept = p .«open» .kept .0;
-            left = p .«open» .ensures .1;
-            answered = p .«open» .ensures .0;
-          }),
+          ∙ written-bytes (openCall (s .args .book .now) R TM) (λ i. p .before .before .before .before .before .before .before .slice-known .given i .fits) (d .ensures) (d .kept .1 .0) (p .«open» .kept .0) (p .«open» .ensures .1) (p .«open» .ensures .0),
     )
 
 pub fanzsoreb-open-spec : {M : Type 1} → statement M

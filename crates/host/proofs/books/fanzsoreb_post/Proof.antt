@@ -2,7 +2,6 @@
 use mathlib.Core.Path.{_∙_, ap}
 use borrow.Author.Needs.{needs}
 use Rattle.rules.specs.Entry.{Key, keyOf}
-use Rattle.rules.specs.Book.{postAnswer}
 use Rattle.host.proofs.CodingLaws.{parts, written-bytes}
 use Rattle.host.proofs.CallLaws.{on-post, postCall}
 use Rattle.host.proofs.books.fanzsoreb_post.Statement.{statement}
@@ -40,19 +39,11 @@ returns c =
     let p = c .before .before .before .before .before .before in
     let d = p .before .before .before .decode in
     let s = p .before .before .before .before .before .before .before in
-    let bs = s .args .book .now in
     let k : Key = keyOf (s .args .party) (s .args .day) (s .args .entry-type) (s .args .counterparty) in
     let amount = s .args .amount in (
-      p .post .ensures .0 ∙ ap (λ ws. postAnswer ws k amount) (d .ensures .read) ∙ on-post bs k amount,
+      p .post .ensures .0 ∙ on-post (d .ensures) k amount,
       c .before .before .write-back .ensures
-          ∙ written-bytes (postCall bs k amount) (d .last .1 .0) (p .post .last .0) (d .result) _ (record {
-            bytes = λ i. p .before .before .before .before .before .before .slice-known .given i .fits;
-            read = d .ensures;
-            array = d .kept .1 .0;
-            kept = p .post .kept .0;
-            left = p .post .ensures .1;
-            answered = ap (λ r. r .answer) (p .post .ensures .0);
-          }),
+          ∙ written-bytes (postCall (s .args .book .now) k amount) (λ i. p .before .before .before .before .before .before .slice-known .given i .fits) (d .ensures) (d .kept .1 .0) (p .post .kept .0) (p .post .ensures .1) (ap (λ r. r .answer) (p .post .ensures .0)),
     )
 
 pub fanzsoreb-post-spec : {M : Type 1} → statement M

@@ -1,7 +1,6 @@
 -- `host::books::fanzsoreb_withdraw` meets its contract. Assumes nothing.
-use mathlib.Core.Path.{_∙_, ap}
+use mathlib.Core.Path.{_∙_}
 use borrow.Author.Needs.{needs}
-use Rattle.rules.specs.Book.{withdrawCause}
 use Rattle.host.proofs.CodingLaws.{parts, written-bytes}
 use Rattle.host.proofs.CallLaws.{on-withdraw, withdrawCall}
 use Rattle.host.proofs.books.fanzsoreb_withdraw.Statement.{statement}
@@ -39,18 +38,10 @@ returns c =
     let p = c .before .before .before .before .before .before in
     let d = p .before .before .before .decode in
     let s = p .before .before .before .before .before .before .before in
-    let bs = s .args .book .now in
     let number = s .args .number in (
-      p .withdraw .ensures .0 ∙ ap (λ ws. withdrawCause ws number) (d .ensures .read) ∙ on-withdraw bs number,
+      p .withdraw .ensures .0 ∙ on-withdraw (d .ensures) number,
       c .before .before .write-back .ensures
-          ∙ written-bytes (withdrawCall bs number) (d .last .1 .0) (p .withdraw .last .0) (d .result) _ (record {
-            bytes = λ i. p .before .before .before .before .before .before .slice-known .given i .fits;
-            read = d .ensures;
-            array = d .kept .1 .0;
-            kept = p .withdraw .kept .0;
-            left = p .withdraw .ensures .1;
-            answered = p .withdraw .ensures .0;
-          }),
+          ∙ written-bytes (withdrawCall (s .args .book .now) number) (λ i. p .before .before .before .before .before .before .slice-known .given i .fits) (d .ensures) (d .kept .1 .0) (p .withdraw .kept .0) (p .withdraw .ensures .1) (p .withdraw .ensures .0),
     )
 
 pub fanzsoreb-withdraw-spec : {M : Type 1} → statement M

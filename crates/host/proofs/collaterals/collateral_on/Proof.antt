@@ -1,8 +1,7 @@
 -- `host::collaterals::collateral_on` meets its contract. Assumes nothing.
-use mathlib.Core.Path.{_∙_, ap}
+use mathlib.Core.Path.{_∙_}
 use borrow.Author.Needs.{needs}
 use Rattle.rules.specs.declared.Case.{Case}
-use Rattle.rules.specs.Collateral.{collateralAnswer}
 use Rattle.host.specs.Cases.{caseWith}
 use Rattle.host.proofs.CodingLaws.{parts}
 use Rattle.host.proofs.CallLaws.{on-collateral}
@@ -29,7 +28,7 @@ returns c =
     let d = c .before .before .before in
     let a = d .before .before .before .args in
     let k : Case = caseWith (a .asked) (a .margin) (a .trading) (a .group) (a .yek) in
-    c .collateral .ensures ∙ ap (λ ws. collateralAnswer ws k) (d .decode .ensures .read) ∙ on-collateral (a .book .now) k
+    c .collateral .ensures ∙ on-collateral (d .decode .ensures) k
 
 pub collateral-on-spec : {M : Type 1} → statement M
 collateral-on-spec =

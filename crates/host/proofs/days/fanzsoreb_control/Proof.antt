@@ -1,7 +1,6 @@
 -- `host::days::fanzsoreb_control` meets its contract. Assumes nothing.
 use mathlib.Core.Path.{_∙_, ap}
 use borrow.Author.Needs.{needs}
-use Rattle.rules.specs.Control.{controlAnswer}
 use Rattle.host.proofs.CodingLaws.{parts, written-bytes}
 use Rattle.host.proofs.CallLaws.{on-control, controlCall}
 use Rattle.host.proofs.days.fanzsoreb_control.Statement.{statement}
@@ -39,18 +38,10 @@ returns c =
     let p = c .before .before .before .before .before .before in
     let d = p .before .before .before .decode in
     let s = p .before .before .before .before .before .before .before in
-    let bs = s .args .book .now in
     let day = s .args .day in (
-      p .control .ensures .0 ∙ ap (λ ws. controlAnswer ws day) (d .ensures .read) ∙ on-control bs day,
+      p .control .ensures .0 ∙ on-control (d .ensures) day,
       c .before .before .write-back .ensures
-          ∙ written-bytes (controlCall bs day) (d .last .1 .0) (p .control .last .0) (d .result) _ (record {
-            bytes = λ i. p .before .before .before .before .before .before .slice-known .given i .fits;
-            read = d .ensures;
-            array = d .kept .1 .0;
-            kept = p .control .kept .0;
-            left = p .control .ensures .1;
-            answered = ap (λ r. r .answer) (p .control .ensures .0);
-          }),
+          ∙ written-bytes (controlCall (s .args .book .now) day) (λ i. p .before .before .before .before .before .before .slice-known .given i .fits) (d .ensures) (d .kept .1 .0) (p .control .kept .0) (p .control .ensures .1) (ap (λ r. r .answer) (p .control .ensures .0)),
     )
 
 pub fanzsoreb-control-spec : {M : Type 1} → statement M

@@ -1,7 +1,6 @@
 -- `host::days::fanzsoreb_read_file` meets its contract. Assumes nothing.
 use mathlib.Core.Path.{_∙_, ap}
 use borrow.Author.Needs.{needs}
-use Rattle.rules.specs.DayFile.{fileAnswer}
 use Rattle.host.proofs.CodingLaws.{parts, written-bytes}
 use Rattle.host.proofs.CallLaws.{on-file, fileCall}
 use Rattle.host.proofs.days.fanzsoreb_read_file.Statement.{statement}
@@ -39,18 +38,10 @@ returns c =
     let p = c .before .before .before .before .before .before in
     let d = p .before .before .before .decode in
     let s = p .before .before .before .before .before .before .before .before in
-    let bs = s .args .book .now in
     let file = s .args .file .now in (
-      p .read-file .ensures .0 ∙ ap (λ ws. fileAnswer ws file) (d .ensures .read) ∙ on-file bs file,
+      p .read-file .ensures .0 ∙ on-file (d .ensures) file,
       c .before .before .write-back .ensures
-          ∙ written-bytes (fileCall bs file) (d .last .1 .0) (p .read-file .last .0) (d .result) _ (record {
-            bytes = λ i. p .before .before .before .before .before .before .before .slice-known .given i .fits;
-            read = d .ensures;
-            array = d .kept .1 .0;
-            kept = p .read-file .kept .0;
-            left = p .read-file .ensures .1;
-            answered = ap (λ r. r .answer) (p .read-file .ensures .0);
-          }),
+          ∙ written-bytes (fileCall (s .args .book .now) file) (λ i. p .before .before .before .before .before .before .before .slice-known .given i .fits) (d .ensures) (d .kept .1 .0) (p .read-file .kept .0) (p .read-file .ensures .1) (ap (λ r. r .answer) (p .read-file .ensures .0)),
     )
 
 pub fanzsoreb-read-file-spec : {M : Type 1} → statement M

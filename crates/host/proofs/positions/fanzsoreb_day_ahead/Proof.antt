@@ -1,7 +1,7 @@
 -- `host::positions::fanzsoreb_day_ahead` meets its contract. Assumes nothing.
-use mathlib.Core.Path.{_∙_, ap}
+use mathlib.Core.Path.{_∙_}
 use borrow.Author.Needs.{needs}
-use Rattle.rules.specs.Balance.{dayAhead, balanceAnswer}
+use Rattle.rules.specs.Balance.{dayAhead}
 use Rattle.host.proofs.CodingLaws.{parts}
 use Rattle.host.proofs.CallLaws.{on-balance}
 use Rattle.host.proofs.positions.fanzsoreb_day_ahead.Statement.{statement}
@@ -25,10 +25,8 @@ day-ahead-requires c κs = search needs
 returns : tie.Need-returns
 returns c =
     let d = c .before .before .before in
-    let s = d .before .before .before in
-    let party = s .args .party in
-    let day = s .args .day in
-    c .day-ahead .ensures ∙ ap (λ ws. balanceAnswer dayAhead ws party day) (d .decode .ensures .read) ∙ on-balance (s .args .book .now) dayAhead party day
+    let a = d .before .before .before .args in
+    c .day-ahead .ensures ∙ on-balance (d .decode .ensures) dayAhead (a .party) (a .day)
 
 pub fanzsoreb-day-ahead-spec : {M : Type 1} → statement M
 fanzsoreb-day-ahead-spec =

@@ -1,7 +1,7 @@
 -- `host::positions::fanzsoreb_delivery` meets its contract. Assumes nothing.
-use mathlib.Core.Path.{_∙_, ap}
+use mathlib.Core.Path.{_∙_}
 use borrow.Author.Needs.{needs}
-use Rattle.rules.specs.Balance.{delivery, balanceAnswer}
+use Rattle.rules.specs.Balance.{delivery}
 use Rattle.host.proofs.CodingLaws.{parts}
 use Rattle.host.proofs.CallLaws.{on-balance}
 use Rattle.host.proofs.positions.fanzsoreb_delivery.Statement.{statement}
@@ -25,10 +25,8 @@ delivery-requires c κs = search needs
 returns : tie.Need-returns
 returns c =
     let d = c .before .before .before in
-    let s = d .before .before .before in
-    let party = s .args .party in
-    let day = s .args .day in
-    c .delivery .ensures ∙ ap (λ ws. balanceAnswer delivery ws party day) (d .decode .ensures .read) ∙ on-balance (s .args .book .now) delivery party day
+    let a = d .before .before .before .args in
+    c .delivery .ensures ∙ on-balance (d .decode .ensures) delivery (a .party) (a .day)
 
 pub fanzsoreb-delivery-spec : {M : Type 1} → statement M
 fanzsoreb-delivery-spec =

@@ -1,7 +1,6 @@
 -- `host::positions::fanzsoreb_tally` meets its contract. Assumes nothing.
-use mathlib.Core.Path.{_∙_, ap}
+use mathlib.Core.Path.{_∙_}
 use borrow.Author.Needs.{needs}
-use Rattle.rules.specs.Balance.{tallyAnswer}
 use Rattle.host.proofs.CodingLaws.{parts}
 use Rattle.host.proofs.CallLaws.{on-tally}
 use Rattle.host.proofs.positions.fanzsoreb_tally.Statement.{statement}
@@ -25,10 +24,8 @@ tally-requires c κs = search needs
 returns : tie.Need-returns
 returns c =
     let d = c .before .before .before in
-    let s = d .before .before .before in
-    let party = s .args .party in
-    let day = s .args .day in
-    c .tally .ensures ∙ ap (λ ws. tallyAnswer ws party day) (d .decode .ensures .read) ∙ on-tally (s .args .book .now) party day
+    let a = d .before .before .before .args in
+    c .tally .ensures ∙ on-tally (d .decode .ensures) (a .party) (a .day)
 
 pub fanzsoreb-tally-spec : {M : Type 1} → statement M
 fanzsoreb-tally-spec =
