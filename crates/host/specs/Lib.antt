@@ -1,4 +1,2 @@
-pub mod Bytes
-pub mod Coding
-pub mod Tables
+-- What the C calls take as numbers.
 pub mod Cases

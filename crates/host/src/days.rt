@@ -3,8 +3,7 @@ ghost use mathlib.Core.Path.{_≡_};
 ghost use Rattle.rules.specs.Refusals.{notABook};
 ghost use Rattle.rules.specs.Control.{controlAnswer, controlWords};
 ghost use Rattle.rules.specs.DayFile.{fileAnswer, fileWords};
-ghost use Rattle.host.specs.Bytes.{onWords, withWords};
-use crate::coding;
+ghost use Rattle.coding.specs.Bytes.{onWords, withWords};
 use rules::Controlled;
 use rules::FileRead;
 

@@ -1,6 +1,5 @@
 // The calls for hosts in C, on numbers and byte slices (document 01, 'Day file').
 pub mod books;
-mod coding;
 pub mod collaterals;
 pub mod days;
 pub mod figures;

@@ -3,8 +3,7 @@ ghost use mathlib.Core.Path.{_≡_};
 ghost use lib.IntN.{pos};
 ghost use Rattle.rules.specs.Refusals.{notABook};
 ghost use Rattle.rules.specs.Balance.{tallyAnswer, balanceAnswer, isDetected, dayAhead, delivery, noTally};
-ghost use Rattle.host.specs.Bytes.{onWords, yesNo};
-use crate::coding;
+ghost use Rattle.coding.specs.Bytes.{onWords, yesNo};
 use rules::BalanceAnswer;
 use rules::TallyAnswer;
 

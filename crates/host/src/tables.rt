@@ -2,9 +2,8 @@
 ghost use mathlib.Core.Path.{_≡_};
 ghost use lib.ListN.{length};
 ghost use Rattle.rules.specs.Month.{monthAnswer};
-ghost use Rattle.host.specs.Tables.{tablesIn, refusedMonth, monthOnBytes};
-ghost use Rattle.host.specs.Coding.{lengthsOk, Fitting, Within};
-use crate::coding;
+ghost use Rattle.coding.specs.Tables.{tablesIn, refusedMonth, monthOnBytes};
+ghost use Rattle.coding.specs.Coding.{lengthsOk, Fitting, Within};
 use rules::Month;
 use rules::MonthAnswer;
 

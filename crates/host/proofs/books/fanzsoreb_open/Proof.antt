@@ -2,8 +2,8 @@
 use mathlib.Core.Path.{_∙_}
 use borrow.Author.Needs.{needs}
 use borrow.Author.Tests.{eq-eqb}
-use Rattle.host.proofs.CodingLaws.{parts, written-bytes}
-use Rattle.host.proofs.CallLaws.{open-odd, on-open, openCall}
+use Rattle.coding.proofs.CodingLaws.{parts, written-bytes}
+use Rattle.coding.proofs.CallLaws.{open-odd, on-open, openCall}
 use Rattle.host.proofs.books.fanzsoreb_open.Statement.{statement}
 use Rattle.host.proofs.books.fanzsoreb_open.Tie as tie
 

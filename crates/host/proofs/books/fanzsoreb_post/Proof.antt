@@ -2,8 +2,8 @@
 use mathlib.Core.Path.{_∙_, ap}
 use borrow.Author.Needs.{needs}
 use Rattle.rules.specs.Entry.{Key, keyOf}
-use Rattle.host.proofs.CodingLaws.{parts, written-bytes}
-use Rattle.host.proofs.CallLaws.{on-post, postCall}
+use Rattle.coding.proofs.CodingLaws.{parts, written-bytes}
+use Rattle.coding.proofs.CallLaws.{on-post, postCall}
 use Rattle.host.proofs.books.fanzsoreb_post.Statement.{statement}
 use Rattle.host.proofs.books.fanzsoreb_post.Tie as tie
 

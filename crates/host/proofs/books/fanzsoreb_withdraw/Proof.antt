@@ -1,8 +1,8 @@
 -- `host::books::fanzsoreb_withdraw` meets its contract. Assumes nothing.
 use mathlib.Core.Path.{_∙_}
 use borrow.Author.Needs.{needs}
-use Rattle.host.proofs.CodingLaws.{parts, written-bytes}
-use Rattle.host.proofs.CallLaws.{on-withdraw, withdrawCall}
+use Rattle.coding.proofs.CodingLaws.{parts, written-bytes}
+use Rattle.coding.proofs.CallLaws.{on-withdraw, withdrawCall}
 use Rattle.host.proofs.books.fanzsoreb_withdraw.Statement.{statement}
 use Rattle.host.proofs.books.fanzsoreb_withdraw.Tie as tie
 

@@ -3,8 +3,8 @@ use mathlib.Core.Path.{_∙_}
 use borrow.Author.Needs.{needs}
 use Rattle.rules.specs.declared.Case.{Case}
 use Rattle.host.specs.Cases.{caseWith}
-use Rattle.host.proofs.CodingLaws.{parts}
-use Rattle.host.proofs.CallLaws.{on-collateral}
+use Rattle.coding.proofs.CodingLaws.{parts}
+use Rattle.coding.proofs.CallLaws.{on-collateral}
 use Rattle.host.proofs.collaterals.collateral_on.Statement.{statement}
 use Rattle.host.proofs.collaterals.collateral_on.Tie as tie
 

@@ -5,7 +5,7 @@ use mir.Syntax.{w64}
 use mir.ValLaws.{toZ-ofZ}
 use Rattle.rules.specs.Refusals.{notABook}
 use Rattle.rules.specs.Collateral.{collateralAnswer, refusedCollateral}
-use Rattle.host.specs.Bytes.{onWords}
+use Rattle.coding.specs.Bytes.{onWords}
 use Rattle.host.proofs.collaterals.fanzsoreb_collateral.Statement.{statement}
 use Rattle.host.proofs.collaterals.fanzsoreb_collateral.Tie as tie
 

@@ -1,8 +1,8 @@
 -- `host::days::fanzsoreb_control` meets its contract. Assumes nothing.
 use mathlib.Core.Path.{_∙_, ap}
 use borrow.Author.Needs.{needs}
-use Rattle.host.proofs.CodingLaws.{parts, written-bytes}
-use Rattle.host.proofs.CallLaws.{on-control, controlCall}
+use Rattle.coding.proofs.CodingLaws.{parts, written-bytes}
+use Rattle.coding.proofs.CallLaws.{on-control, controlCall}
 use Rattle.host.proofs.days.fanzsoreb_control.Statement.{statement}
 use Rattle.host.proofs.days.fanzsoreb_control.Tie as tie
 

@@ -1,8 +1,8 @@
 -- `host::days::fanzsoreb_read_file` meets its contract. Assumes nothing.
 use mathlib.Core.Path.{_∙_, ap}
 use borrow.Author.Needs.{needs}
-use Rattle.host.proofs.CodingLaws.{parts, written-bytes}
-use Rattle.host.proofs.CallLaws.{on-file, fileCall}
+use Rattle.coding.proofs.CodingLaws.{parts, written-bytes}
+use Rattle.coding.proofs.CallLaws.{on-file, fileCall}
 use Rattle.host.proofs.days.fanzsoreb_read_file.Statement.{statement}
 use Rattle.host.proofs.days.fanzsoreb_read_file.Tie as tie
 

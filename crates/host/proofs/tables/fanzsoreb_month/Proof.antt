@@ -4,8 +4,8 @@ use mathlib.Core.Bool.{true}
 use borrow.Author.Needs.{needs}
 use borrow.Author.Tests.{not-true, not-false}
 use lib.ListN.{length}
-use Rattle.host.specs.Coding.{lengthsOk}
-use Rattle.host.proofs.TableLaws.{bad-lengths, many-rows, tables-within, most-figures, on-tables}
+use Rattle.coding.specs.Coding.{lengthsOk}
+use Rattle.coding.proofs.TableLaws.{bad-lengths, many-rows, tables-within, most-figures, on-tables}
 use Rattle.host.proofs.tables.fanzsoreb_month.Statement.{statement}
 use Rattle.host.proofs.tables.fanzsoreb_month.Tie as tie
 

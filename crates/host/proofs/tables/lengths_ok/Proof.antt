@@ -4,7 +4,7 @@ use Prim.Native.Nat.{_*_, _/_, _≤_}
 use native.Mathlib.Nat.{mul-le-mul}
 use native.Mathlib.Omega.{arith}
 use borrow.Author.Tests.{lt-leb, le-leb}
-use Rattle.host.specs.Coding.{lengthsOk}
+use Rattle.coding.specs.Coding.{lengthsOk}
 use Rattle.host.proofs.tables.lengths_ok.Statement.{statement}
 use Rattle.host.proofs.tables.lengths_ok.Tie as tie
 

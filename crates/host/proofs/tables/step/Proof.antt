@@ -2,7 +2,7 @@
 use mathlib.Core.Path.{_∙_, ap}
 use borrow.Author.Needs.{needs}
 use Rattle.rules.specs.Month.{monthAnswer}
-use Rattle.host.proofs.TableLaws.{tables-read}
+use Rattle.coding.proofs.TableLaws.{tables-read}
 use Rattle.host.proofs.tables.step.Statement.{statement}
 use Rattle.host.proofs.tables.step.Tie as tie
 

@@ -1,5 +1,0 @@
-pub mod BytesLaws
-pub mod TableLaws
-pub mod CutLaws
-pub mod CodingLaws
-pub mod CallLaws
