@@ -21,7 +21,8 @@ use Rattle.rules.proofs.WordLaws.{no-fault, within-true}
 use Rattle.fileform.specs.declared.Cursor.{Cursor}
 use Rattle.fileform.specs.Walk.{isMore, itemsAt, pastStep, leftItems}
 use Rattle.dayfile.specs.Names.{isNamed, itemHas, namesParty}
-use Rattle.fileform.proofs.WalkLaws.{items-step}
+use Rattle.fileform.proofs.WalkLaws.{items-step, items-end, past-within}
+use Rattle.dayfile.proofs.CheckLaws.{table-step}
 use Rattle.dayfile.proofs.FileLaws.{file-passes}
 
 -- one mark
@@ -50,6 +51,29 @@ module _ (f : Item → Bool) where
   pub names-step : (bs : List ℕ) (c : Cursor) → isMore bs c ≡ true → any f (leftItems bs c) ≡ any f (itemsAt bs c) || any f (leftItems bs (pastStep bs c))
   names-step bs c more =
       rw (items-step bs c more) (any-append f (itemsAt bs c) (leftItems bs (pastStep bs c)))
+
+-- a table in a walk: what the whole file names is what the table has, or what is left names
+pub record Marks (names : ℕ → Item → Bool) (bs : List ℕ) (whole t : List Bool) (c : Cursor) : Type 0 where
+  pub within : c .at ≤ length bs
+  pub long : length t ≡ length whole
+  pub has : (n : ℕ) → n < length whole → getD whole n false || any (names n) (items bs) ≡ getD t n false || any (names n) (leftItems bs c)
+
+module _ (names : ℕ → Item → Bool) (bs : List ℕ) (whole t : List Bool) (c : Cursor) (w : Marks names bs whole t c) {more : Bool} (e : more ≡ isMore bs c) where
+  -- one head or line
+  pub marks-step : {u : List Bool} {next : Cursor} → more ≡ true → next ≡ pastStep bs c → length u ≡ length t →
+      ((n : ℕ) → n < length t → getD u n false ≡ getD t n false || any (names n) (itemsAt bs c)) → Marks names bs whole u next
+  marks-step y p l h =
+      let m = sym e ∙ y in
+      rw p
+      (record {
+        within = past-within bs c m .1;
+        long = l ∙ w .long;
+        has = λ n b. table-step (getD t n false) (any (names n) (itemsAt bs c)) (any (names n) (leftItems bs (pastStep bs c))) (w .has n b) (names-step (names n) bs c m) (h n (rw (w .long) b));
+      })
+
+  pub marks-end : more ≡ false → (n : ℕ) → n < length whole → getD t n false ≡ getD whole n false || any (names n) (items bs)
+  unfolding any
+  marks-end y n b = sym (w .has n b ∙ rw (items-end bs c (sym e ∙ y), or-false (getD t n false)))
 
 -- a party that is not named is named on no day
 not-on-day : (p d : ℕ) (i : Item) → itemHas p i ≡ false → itemNames p d i ≡ false

@@ -1,7 +1,7 @@
 -- Laws of a walk of a file's bytes. Assumes nothing.
-use mathlib.Core.Path.{_≡_, refl}
+use mathlib.Core.Path.{_≡_, refl, sym, _∙_}
 use mathlib.Core.Logic.{inl, inr}
-use mathlib.Core.Bool.{true, false, _&&_}
+use mathlib.Core.Bool.{Bool, true, false, _&&_}
 use mathlib.Core.List.{List, [], _∷_, _++_}
 use Prim.Native.Nat.{ℕ, zero, suc, _+_, _-_, _≤_, _<_}
 use native.Mathlib.Numerals.{add-one, add-two, add-three, add-four}
@@ -120,6 +120,10 @@ past-within bs c more = go (c .left) refl
     go : (n : ℕ) → c .left ≡ n → (c .at < pastStep bs c .at) × (pastStep bs c .at ≤ length bs)
     go zero e = rw e (omega (arith, head-whole bs c more e))
     go (suc n) e = rw (e, some n) (omega (arith, line-whole bs c more (λ z. absurd (omega arith))))
+
+-- and comes nearer to the end
+pub walk-less : (bs : List ℕ) (c : Cursor) {more : Bool} {next : Cursor} → more ≡ isMore bs c → more ≡ true → next ≡ pastStep bs c → length bs - next .at < length bs - c .at
+walk-less bs c e y p = rw p (omega (arith, past-within bs c (sym e ∙ y)))
 
 -- the shape of what is left, by one head or line
 pub shaped-step : (bs : List ℕ) (c : Cursor) → isMore bs c ≡ true → leftShaped bs c ≡ isStepOk bs c && leftShaped bs (pastStep bs c)

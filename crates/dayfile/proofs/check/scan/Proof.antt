@@ -6,7 +6,7 @@ use lib.ListN.{length}
 use Rattle.rules.specs.DayFile.{items, linesOf}
 use Rattle.fileform.specs.Walk.{leftItems}
 use Rattle.dayfile.specs.Check.{firstCause}
-use Rattle.fileform.proofs.WalkLaws.{items-end, past-within}
+use Rattle.fileform.proofs.WalkLaws.{items-end, past-within, walk-less}
 use Rattle.dayfile.proofs.CheckLaws.{cause-stops, cause-goes-on, lines-step, lines-at-most, scan-refused, scan-done}
 use borrow.Author.Needs.{needs}
 use Rattle.dayfile.proofs.check.scan.Statement.{statement}
@@ -57,8 +57,7 @@ advance-requires c κs = sym (c .before .before .before .before .more .ensures) 
 loop-less : tie.Need-loop-less Inv-loop μ-loop
 loop-less c =
     let t = c .before .before .before .before in
-    let m = sym (t .before .more .ensures) ∙ t .if1 .taken in
-    rw (c .advance .ensures) (omega (arith, past-within _ (t .before .before .loop .c) m))
+    walk-less _ (t .before .before .loop .c) (t .before .more .ensures) (t .if1 .taken) (c .advance .ensures)
 
 loop-again : tie.Need-loop-again Inv-loop μ-loop
 loop-again c =

@@ -1,24 +1,16 @@
 -- `dayfile::names::mark_days` meets its contract. The loop's invariant: what the file names is what the table has, or what is left names. Assumes nothing.
-use mathlib.Core.Path.{_≡_, refl, sym, _∙_}
-use mathlib.Core.Bool.{false, _||_, or-false}
-use Prim.Native.Nat.{ℕ, _≤_, _<_, _-_, zero-le}
-use native.Mathlib.Omega.{arith}
-use lib.ListN.{length, getD}
-use Rattle.numbers.specs.Tests.{any}
+use mathlib.Core.Path.{refl, sym, _∙_}
+use Prim.Native.Nat.{_-_, zero-le}
+use lib.ListN.{length}
 use Rattle.rules.specs.DayFile.{items, itemNames, fileNames}
-use Rattle.fileform.specs.Walk.{itemsAt, leftItems, pastStep}
-use Rattle.fileform.proofs.WalkLaws.{items-end, past-within}
-use Rattle.dayfile.proofs.CheckLaws.{table-step}
-use Rattle.dayfile.proofs.NameLaws.{names-step}
+use Rattle.fileform.proofs.WalkLaws.{walk-less}
+use Rattle.dayfile.proofs.NameLaws.{Marks, marks-step, marks-end}
 use borrow.Author.Needs.{needs}
 use Rattle.dayfile.proofs.names.mark_days.Statement.{statement}
 use Rattle.dayfile.proofs.names.mark_days.Tie as tie
 
 abbrev Inv-loop : tie.InvT-loop
-Inv-loop file party days₀ c₀ days c =
-    (c .at ≤ length file)
-    × (length days ≡ length days₀)
-    × ((d : ℕ) → d < length days₀ → getD days₀ d false || fileNames file party d ≡ getD days d false || any (itemNames party d) (leftItems file c))
+Inv-loop file party days₀ c₀ days c = Marks (itemNames party) file days₀ days c
 
 abbrev μ-loop : tie.MeasureT-loop
 μ-loop file party days₀ c₀ days c = length file - c .at
@@ -27,11 +19,11 @@ begin-requires : tie.Need-begin-requires Inv-loop μ-loop
 begin-requires c κs = search needs
 
 loop-holds : tie.Need-loop-holds Inv-loop μ-loop
-unfolding fileNames items
-loop-holds c = rw (c .begin .ensures) (zero-le, refl, λ d _. refl)
+unfolding items
+loop-holds c = rw (c .begin .ensures) (record { within = zero-le; long = refl; has = λ n b. refl })
 
 more-requires : tie.Need-more-requires Inv-loop μ-loop
-more-requires c κs = c .loop .inv .0
+more-requires c κs = c .loop .inv .within
 
 day-at-requires : tie.Need-day-at-requires Inv-loop μ-loop
 day-at-requires c κs = sym (c .before .before .more .ensures) ∙ c .before .if1 .taken
@@ -42,8 +34,7 @@ advance-requires c κs = sym (c .before .before .before .before .before .more .e
 loop-less : tie.Need-loop-less Inv-loop μ-loop
 loop-less c =
     let t = c .before .before .before .before .before in
-    let m = sym (t .before .more .ensures) ∙ t .if1 .taken in
-    rw (c .advance .ensures) (omega (arith, past-within _ (t .before .before .loop .c) m))
+    walk-less _ (t .before .before .loop .c) (t .before .more .ensures) (t .if1 .taken) (c .advance .ensures)
 
 loop-again : tie.Need-loop-again Inv-loop μ-loop
 loop-again c =
@@ -51,23 +42,17 @@ loop-again c =
     let t = k .before .before in
     let l = t .before .before in
     let a = l .before .before .before .before .args in
-    let bs = a .file .now in
-    let m = sym (t .before .more .ensures) ∙ t .if1 .taken in
-    rw (c .advance .ensures) (
-      past-within bs (l .loop .c) m .1,
-      k .day-at .kept .1 .1 .1 .0 ∙ l .loop .inv .1,
-      λ d h. table-step (getD (l .loop .days) d false) (any (itemNames (a .party) d) (itemsAt bs (l .loop .c))) (any (itemNames (a .party) d) (leftItems bs (pastStep bs (l .loop .c)))) (l .loop .inv .2 d h) (names-step (itemNames (a .party) d) bs (l .loop .c) m) (k .day-at .ensures d (rw (l .loop .inv .1) h)),
-    )
+    marks-step (itemNames (a .party)) (a .file .now) (a .days .now) (l .loop .days) (l .loop .c) (l .loop .inv) (t .before .more .ensures) (t .if1 .taken) (c .advance .ensures) (k .day-at .kept .1 .1 .1 .0) (k .day-at .ensures)
 
 same-length : tie.Need-same-length Inv-loop μ-loop
-same-length c = c .before .before .loop .inv .1
+same-length c = c .before .before .loop .inv .long
 
 returns : tie.Need-returns Inv-loop μ-loop
-unfolding any
+unfolding fileNames
 returns c =
     let l = c .before .before in
-    let bs = l .before .before .before .before .args .file .now in
-    λ d h. sym (l .loop .inv .2 d h ∙ rw (items-end bs (l .loop .c) (sym (c .before .more .ensures) ∙ c .if1 .left), or-false (getD (l .loop .days) d false)))
+    let a = l .before .before .before .before .args in
+    marks-end (itemNames (a .party)) (a .file .now) (a .days .now) (l .loop .days) (l .loop .c) (l .loop .inv) (c .before .more .ensures) (c .if1 .left)
 
 pub mark-days-spec : {M : Type 1} → statement M
 mark-days-spec =

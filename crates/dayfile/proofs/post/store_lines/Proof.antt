@@ -9,7 +9,7 @@ use Rattle.rules.specs.Entry.{legal}
 use Rattle.rules.specs.DayFile.{items, linesOf}
 use Rattle.fileform.specs.Walk.{leftItems}
 use Rattle.dayfile.specs.Check.{storedFrom}
-use Rattle.fileform.proofs.WalkLaws.{items-end, past-within}
+use Rattle.fileform.proofs.WalkLaws.{items-end, past-within, walk-less}
 use Rattle.dayfile.proofs.CheckLaws.{lines-step}
 use Rattle.dayfile.proofs.PostLaws.{stored-step, legal-step}
 use borrow.Author.Needs.{needs}
@@ -59,8 +59,7 @@ advance-requires c κs = sym (c .before .before .before .before .before .more .e
 loop-less : tie.Need-loop-less Inv-loop μ-loop
 loop-less c =
     let t = c .before .before .before .before .before in
-    let m = sym (t .before .more .ensures) ∙ t .if1 .taken in
-    rw (c .advance .ensures) (omega (arith, past-within _ (t .before .before .loop .c) m))
+    walk-less _ (t .before .before .loop .c) (t .before .more .ensures) (t .if1 .taken) (c .advance .ensures)
 
 loop-again : tie.Need-loop-again Inv-loop μ-loop
 loop-again c =

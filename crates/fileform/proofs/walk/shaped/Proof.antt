@@ -3,11 +3,10 @@ use Prim.Native.Nat.{zero-le}
 use Rattle.book.proofs.Ladder.{passed, failed}
 use mathlib.Core.Path.{_≡_, refl, sym, _∙_}
 use Prim.Native.Nat.{_≤_, _-_}
-use native.Mathlib.Omega.{arith}
 use lib.ListN.{length}
 use Rattle.rules.specs.DayFile.{isShaped, wordsOf}
 use Rattle.fileform.specs.Walk.{leftShaped}
-use Rattle.fileform.proofs.WalkLaws.{shaped-step, shaped-end, past-within}
+use Rattle.fileform.proofs.WalkLaws.{shaped-step, shaped-end, past-within, walk-less}
 use borrow.Author.Needs.{needs}
 use Rattle.fileform.proofs.walk.shaped.Statement.{statement}
 use Rattle.fileform.proofs.walk.shaped.Tie as tie
@@ -43,8 +42,7 @@ advance-requires c κs = sym (c .before .before .before .more .ensures) ∙ c .b
 loop-less : tie.Need-loop-less Inv-loop μ-loop
 loop-less c =
     let t = c .before .before .before in
-    let m = sym (t .before .more .ensures) ∙ t .if1 .taken in
-    rw (c .advance .ensures) (omega (arith, past-within _ (t .before .before .loop .c) m))
+    walk-less _ (t .before .before .loop .c) (t .before .more .ensures) (t .if1 .taken) (c .advance .ensures)
 
 loop-again : tie.Need-loop-again Inv-loop μ-loop
 loop-again c =
