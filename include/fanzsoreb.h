@@ -13,8 +13,9 @@
  * Units: volumes in kWh, money in kurus, prices in kurus per MWh, balances in hundredths of a kWh, signed.
  * A day is a number: 0 is 2000-01-01, 36,524 is 2099-12-31. Parties are 1 to 999.
  *
- * Stack: a call on a book needs up to 64 KiB for the book's words; control 264 KiB more, for 17 sums a party
- * and a bit a pair; the month step 200 KiB for its tables. Calls on different books may run at the same time.
+ * Stack: a call on a book needs 64 KiB, for the book's words; reading a day file 100 KiB, for a flag a day too;
+ * control 340 KiB, for 17 sums a party and a bit a pair; the month step 200 KiB, for its tables. All others need
+ * less than 1 KiB. Calls on different books may run at the same time.
  */
 #ifndef FANZSOREB_H
 #define FANZSOREB_H
