@@ -163,6 +163,7 @@ macro_rules! compare {
 }
 
 fn main() {
+    println!("Shortest of {RUNS} runs. A call that writes gets a fresh copy of its book, made outside the time; caches are not cleared.\n");
     let mut table = Vec::new();
     let months = fast::Months::new();
     for size in [0usize, 768, 1536, 3072] {
