@@ -5,13 +5,22 @@ use mathlib.Core.List.{List, [], _∷_, _++_}
 use Prim.Native.Nat.{ℕ, zero, suc, _+_, _-_, _≤_, _<_}
 use native.Mathlib.Numerals.{add-one}
 use native.Mathlib.Omega.{arith}
+use lib.IntN.{ℤ}
 use lib.ListN.{getD}
+use borrow.Author.Tests.{le-leb}
 use Rattle.numbers.specs.Causes.{ifDone}
 use Rattle.numbers.proofs.CauseLaws.{done-else}
 use Rattle.rules.specs.DayFile.{fileCause, fileAnswer, fileWords, fileNames}
 use Rattle.rules.specs.declared.FileRead.{FileRead}
 use Rattle.dayfile.specs.Names.{namesParty}
 use Rattle.dayfile.proofs.NameLaws.{not-named}
+use Rattle.dayfile.proofs.FileLaws.{file-stays}
+use Rattle.rules.specs.Words.{isBook, entries, coefficientOf, toleranceOf}
+use Rattle.rules.specs.Balance.{Volume, balanceOf, balanceAnswer, partyDayCause}
+use Rattle.rules.specs.declared.TallyAnswer.{TallyAnswer}
+use Rattle.position.specs.Scan.{scanned}
+use Rattle.position.proofs.AnswerLaws.{no-cause, balance-done}
+use Rattle.report.specs.Asked.{Asked}
 use Rattle.report.specs.Report.{eachFrom, partyLines, allLines, lineOf, header, refusal, reportInto}
 
 -- the text of one number more, up to an end
@@ -56,3 +65,15 @@ module _ (ws bs : List ℕ) {r : FileRead} (e : r ≡ fileAnswer ws bs) where
   pub report-done : r .answer ≡ 0 → reportInto ws bs ≡ header ++ allLines bs (fileWords ws bs)
   unfolding reportInto
   report-done z = rw (cause-is, z)
+
+  pub report-book : r .answer ≡ 0 → isBook (fileWords ws bs) ≡ true
+  report-book z = file-stays ws bs (cause-is ∙ z) .is-book
+
+-- a balance asked of a book, for a party and a day in their ranges, is not refused
+pub asked-cause : {ws : List ℕ} {p d : ℕ} → Asked ws p d → 0 ≡ partyDayCause ws p d
+asked-cause {ws} {p} {d} a = no-cause ws p d (a .is-book) (rw (le-leb 1 p (a .party-above), le-leb p 999 (a .party))) (le-leb d 36524 (a .day))
+
+-- its balance is that of what the scan read
+pub asked-balance : {ws : List ℕ} {p d : ℕ} → Asked ws p d → (v : Volume) {s : TallyAnswer} {R TM : ℕ} {z : ℤ} → s ≡ scanned p d (entries ws) → R ≡ coefficientOf ws → TM ≡ toleranceOf ws →
+    z ≡ balanceOf v R TM (s .tally) (s .bought) → z ≡ balanceAnswer v ws p d .balance
+asked-balance {ws} {p} {d} a v f g h e = ap (λ b. b .balance) (balance-done ws p d (asked-cause a) v refl f g h e)

@@ -1,13 +1,17 @@
 // What the program `balance` prints, as a function on slices (01, 'Day file').
 ghost use mathlib.Core.Path.{_≡_};
-ghost use mathlib.Core.Bool.{false, cond};
+ghost use mathlib.Core.Bool.{true, false, cond};
 ghost use mathlib.Core.List.{[], _∷_, _++_};
 ghost use Prim.Native.Nat.{ℕ, _+_, _≤_, _<_};
 ghost use lib.ListN.{length, getD};
+ghost use Rattle.rules.specs.Words.{isBook};
 ghost use Rattle.rules.specs.Book.{openWords, defaultCoefficient, defaultTolerance};
 ghost use Rattle.dayfile.specs.Names.{namesParty};
 ghost use Rattle.report.specs.Text.{Wrote};
+ghost use Rattle.report.specs.Asked.{Asked};
 ghost use Rattle.report.specs.Report.{header, refusal, lineText, lineOf, eachFrom, partyLines, allLines, reportInto, reportOn};
+use book::words;
+use position::parts;
 
 pub mod input;
 mod text;
@@ -22,22 +26,39 @@ fn put_line(out: &mut [u8], at: usize, party: u32, day: u32, ahead: i64, due: i6
     text::put_balance(out, third, due, b'\n')
 }
 
+// Both balances by one scan of a checked book.
+fn put_pair(book: &[u32], party: u32, day: u32, out: &mut [u8], at: usize) -> usize
+    requires { ⌜ at ≤ length (now out) ⌝ }
+    requires { ⌜ Asked (now book) party day ⌝ }
+    ensures { λ r. ⌜ Wrote (now (out .entry)) at (lineOf (now (book .entry)) party day) r (now (out .exit)) ⌝ }
+{
+    let read = parts::scan(book, party, day);
+    let t = read.tally;
+    let bought = read.bought;
+    let coefficient = words::coefficient_of(book);
+    let tolerance = words::tolerance_of(book);
+    let ahead = parts::day_ahead_of(t, bought, coefficient, tolerance);
+    let due = parts::delivery_of(t, bought, coefficient, tolerance);
+    put_line(out, at, party, day, ahead, due)
+}
+
 fn put_named(book: &[u32], party: u32, day: u32, named: bool, out: &mut [u8], at: usize) -> usize
     requires { ⌜ at ≤ length (now out) ⌝ }
+    requires { ⌜ Asked (now book) party day ⌝ }
     ensures { λ r. ⌜ Wrote (now (out .entry)) at (cond named (lineOf (now (book .entry)) party day) []) r (now (out .exit)) ⌝ }
 {
     if !named {
         return at;
     }
-    let ahead = position::day_ahead(book, party, day);
-    let due = position::delivery(book, party, day);
-    put_line(out, at, party, day, ahead.balance, due.balance)
+    put_pair(book, party, day, out, at)
 }
 
 // A line for each day that the table has.
 fn put_days(book: &[u32], party: u32, days: &[bool], out: &mut [u8], at: usize) -> usize
     requires { ⌜ at ≤ length (now out) ⌝ }
     requires { ⌜ length (now days) ≡ 36525 ⌝ }
+    requires { ⌜ isBook (now book) ≡ true ⌝ }
+    requires { ⌜ (1 ≤ party) × (party ≤ 999) ⌝ }
     ensures { λ r. ⌜ Wrote (now (out .entry)) at (eachFrom (λ d. cond (getD (now (days .entry)) d false) (lineOf (now (book .entry)) party d) []) 36525 0) r (now (out .exit)) ⌝ }
 {
     let mut next = at;
@@ -61,6 +82,8 @@ fn put_party_with(
     requires { ⌜ at ≤ length (now out) ⌝ }
     requires { ⌜ length (now days) ≡ 36525 ⌝ }
     requires { ⌜ ((d : ℕ) → d < 36525 → getD (now days) d false ≡ false) ⌝ }
+    requires { ⌜ isBook (now book) ≡ true ⌝ }
+    requires { ⌜ (1 ≤ party) × (party ≤ 999) ⌝ }
     ensures { λ r. ⌜ Wrote (now (out .entry)) at (partyLines (now (file .entry)) (now (book .entry)) party) r (now (out .exit)) ⌝ }
 {
     dayfile::names::mark_days(file, party, days);
@@ -71,6 +94,8 @@ fn put_party_with(
 fn put_party(book: &[u32], file: &[u8], party: u32, named: bool, out: &mut [u8], at: usize) -> usize
     requires { ⌜ at ≤ length (now out) ⌝ }
     requires { ⌜ named ≡ namesParty (now file) party ⌝ }
+    requires { ⌜ isBook (now book) ≡ true ⌝ }
+    requires { ⌜ (1 ≤ party) × (party ≤ 999) ⌝ }
     ensures { λ r. ⌜ Wrote (now (out .entry)) at (partyLines (now (file .entry)) (now (book .entry)) party) r (now (out .exit)) ⌝ }
 {
     if !named {
@@ -84,6 +109,7 @@ fn put_parties(book: &[u32], file: &[u8], parties: &[bool], out: &mut [u8], at: 
     requires { ⌜ at ≤ length (now out) ⌝ }
     requires { ⌜ length (now parties) ≡ 1000 ⌝ }
     requires { ⌜ ((p : ℕ) → p < 1000 → getD (now parties) p false ≡ namesParty (now file) p) ⌝ }
+    requires { ⌜ isBook (now book) ≡ true ⌝ }
     ensures { λ r. ⌜ Wrote (now (out .entry)) at (allLines (now (file .entry)) (now (book .entry))) r (now (out .exit)) ⌝ }
 {
     let mut next = at;
@@ -99,6 +125,7 @@ fn put_parties(book: &[u32], file: &[u8], parties: &[bool], out: &mut [u8], at: 
 fn put_table_with(book: &[u32], file: &[u8], parties: &mut [bool], out: &mut [u8]) -> usize
     requires { ⌜ length (now parties) ≡ 1000 ⌝ }
     requires { ⌜ ((p : ℕ) → p < 1000 → getD (now parties) p false ≡ false) ⌝ }
+    requires { ⌜ isBook (now book) ≡ true ⌝ }
     ensures { λ r. ⌜ Wrote (now (out .entry)) 0 (header ++ allLines (now (file .entry)) (now (book .entry))) r (now (out .exit)) ⌝ }
 {
     dayfile::names::mark_parties(file, parties);
@@ -107,6 +134,7 @@ fn put_table_with(book: &[u32], file: &[u8], parties: &mut [bool], out: &mut [u8
 }
 
 fn put_table(book: &[u32], file: &[u8], out: &mut [u8]) -> usize
+    requires { ⌜ isBook (now book) ≡ true ⌝ }
     ensures { λ r. ⌜ Wrote (now (out .entry)) 0 (header ++ allLines (now (file .entry)) (now (book .entry))) r (now (out .exit)) ⌝ }
 {
     let mut parties = [false; 1000];

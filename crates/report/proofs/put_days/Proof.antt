@@ -29,7 +29,11 @@ shared-slice-read-put-named : tie.Need-shared-slice-read-put-named Inv-loop μ-l
 shared-slice-read-put-named c = search needs
 
 put-named-requires : tie.Need-put-named-requires Inv-loop μ-loop
-put-named-requires c κs = c .before .before .before .loop .inv .1 .within
+put-named-requires c κs =
+    let l = c .before .before .before in
+    let s = l .before .before .before .before in
+    let p = s .pre .1 .1 in
+    (l .loop .inv .1 .within, record { is-book = p .0; party-above = p .1 .0; party = p .1 .1; day = omega arith })
 
 add-day : tie.Need-add-day Inv-loop μ-loop
 add-day c = search needs

@@ -10,14 +10,14 @@ use Rattle.report.proofs.put_parties.Tie as tie
 
 abbrev Inv-loop : tie.InvT-loop
 Inv-loop book file parties out₀ at next₀ party₀ out next party =
-    (party ≤ 1000) × Left out₀ at (allLines file book) out next (eachFrom (partyLines file book) (1000 - party) party)
+    ((1 ≤ party) × (party ≤ 1000)) × Left out₀ at (allLines file book) out next (eachFrom (partyLines file book) (1000 - party) party)
 
 abbrev μ-loop : tie.MeasureT-loop
 μ-loop book file parties out₀ at next₀ party₀ out next party = 1000 - party
 
 loop-holds : tie.Need-loop-holds Inv-loop μ-loop
 unfolding allLines
-loop-holds c = (omega arith, left-start (c .before .before .before .before .args .out .now) (c .before .before .before .before .args .at) _ (c .before .before .before .before .pre .0))
+loop-holds c = ((omega arith, omega arith), left-start (c .before .before .before .before .args .out .now) (c .before .before .before .before .args .at) _ (c .before .before .before .before .pre .0))
 
 cast-put-party : tie.Need-cast-put-party Inv-loop μ-loop
 cast-put-party c = search needs
@@ -28,7 +28,8 @@ shared-slice-read-put-party c = search needs
 put-party-requires : tie.Need-put-party-requires Inv-loop μ-loop
 put-party-requires c κs =
     let l = c .before .before .before in
-    (l .loop .inv .1 .within, l .before .before .before .before .before .pre .1 .1 (l .loop .party) (c .before .before .loop-test .taken))
+    let s = l .before .before .before .before .before in
+    (l .loop .inv .1 .within, (s .pre .1 .1 .0 (l .loop .party) (c .before .before .loop-test .taken), (s .pre .1 .1 .1, (l .loop .inv .0 .0, omega arith))))
 
 add-party : tie.Need-add-party Inv-loop μ-loop
 add-party c = search needs
@@ -40,7 +41,7 @@ loop-again : tie.Need-loop-again Inv-loop μ-loop
 loop-again c =
     let p = c .before .before in
     let l = p .before .before .before .before in
-    (omega arith, left-step (l .loop .inv .1) (each-step _ 1000 (l .loop .party) (p .before .before .before .loop-test .taken)) (p .put-party .ensures))
+    ((omega arith, omega arith), left-step (l .loop .inv .1) (each-step _ 1000 (l .loop .party) (p .before .before .before .loop-test .taken)) (p .put-party .ensures))
 
 same-length : tie.Need-same-length Inv-loop μ-loop
 same-length c = c .before .loop .inv .1 .long

@@ -10,7 +10,9 @@ mark-days-requires : tie.Need-mark-days-requires
 mark-days-requires c κs = search needs
 
 put-days-requires : tie.Need-put-days-requires
-put-days-requires c κs = search needs
+put-days-requires c κs =
+    let s = c .before .before .before .before .before .before .before .before .before .before in
+    (search needs, (search needs, s .pre .1 .1 .1))
 
 same-length : tie.Need-same-length
 same-length c = search needs
@@ -23,7 +25,7 @@ returns c =
     let k = c .before .before in
     let m = k .before .before .before .before .before in
     let s = m .before .before .before .before .before .before in
-    rw (← table-lines (s .args .file .now) (s .args .book .now) (s .args .party) (m .mark-days .last .1 .1 .0) (λ d h. m .mark-days .ensures d (rw (s .pre .1 .0) h) ∙ rw (s .pre .1 .1 d h))) (k .put-days .ensures)
+    rw (← table-lines (s .args .file .now) (s .args .book .now) (s .args .party) (m .mark-days .last .1 .1 .0) (λ d h. m .mark-days .ensures d (rw (s .pre .1 .0) h) ∙ rw (s .pre .1 .1 .0 d h))) (k .put-days .ensures)
 
 pub put-party-with-spec : {M : Type 1} → statement M
 put-party-with-spec =

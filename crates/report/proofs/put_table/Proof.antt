@@ -9,7 +9,7 @@ slice-aggregate-put-table-with : tie.Need-slice-aggregate-put-table-with
 slice-aggregate-put-table-with c = search needs
 
 put-table-with-requires : tie.Need-put-table-with-requires
-put-table-with-requires c κs = (length-replicate 1000 false, λ p h. getD-replicate 1000 p false false h)
+put-table-with-requires c κs = (length-replicate 1000 false, ((λ p h. getD-replicate 1000 p false false h), c .before .before .before .before .before .pre))
 
 same-length : tie.Need-same-length
 same-length c = search needs

@@ -22,7 +22,7 @@ put-parties-requires c κs =
       wrote-within (b .put-bytes .ensures),
       (
         m .mark-parties .kept .1 .0 ∙ s .pre .0,
-        λ p h. m .mark-parties .ensures p (rw (s .pre .0) h) ∙ rw (s .pre .1 p h),
+        ((λ p h. m .mark-parties .ensures p (rw (s .pre .0) h) ∙ rw (s .pre .1 .0 p h)), s .pre .1 .1),
       ),
     )
 

@@ -1,5 +1,5 @@
 -- `report::report_into` meets its contract. Assumes nothing.
-use Rattle.report.proofs.ReportLaws.{report-refused, report-done}
+use Rattle.report.proofs.ReportLaws.{report-refused, report-done, report-book}
 use borrow.Author.Needs.{needs}
 use Rattle.report.proofs.report_into.Statement.{statement}
 use Rattle.report.proofs.report_into.Tie as tie
@@ -28,7 +28,10 @@ returns c =
     rw (report-refused _ _ (rw (o .open-default .ensures .1) at (r .read-file .ensures .0)) (i .if1 .taken)) (k .refused .ensures)
 
 put-table-requires : tie.Need-put-table-requires
-put-table-requires c κs = search needs
+put-table-requires c κs =
+    let i = c .before .before in
+    let r = i .before .before .before .before in
+    rw (r .read-file .ensures .1) (report-book _ _ (r .read-file .ensures .0) (i .if1 .left))
 
 same-length-3 : tie.Need-same-length-3
 same-length-3 c = search needs
