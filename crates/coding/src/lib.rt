@@ -19,7 +19,7 @@ fn word_of(a: u8, b: u8, c: u8, d: u8) -> u32
 }
 
 // The word at a byte.
-fn word_at(bytes: &[u8], at: usize) -> u32
+pub fn word_at(bytes: &[u8], at: usize) -> u32
     requires { ⌜ at + 4 ≤ length (now bytes) ⌝ }
     ensures { λ r. ⌜ r ≡ wordAt (now (bytes .entry)) at ⌝ }
 {

@@ -14,7 +14,8 @@ use Rattle.numbers.proofs.TestLaws.{below-or-above}
 use Rattle.rules.specs.DayFile.{Item, line, headItem, linesIn, isShaped, itemsFrom, wordsOf}
 use Rattle.fileform.specs.declared.Cursor.{Cursor}
 use Rattle.fileform.specs.Read.{stepAt, wordIn}
-use Rattle.fileform.specs.Walk.{wordAt, isMore, headAt, pastStep, lineAt, lineItem, itemsAt, isStepOk, leftItems, leftShaped}
+use Rattle.coding.specs.Coding.{wordAt}
+use Rattle.fileform.specs.Walk.{isMore, headAt, pastStep, lineAt, lineItem, itemsAt, isStepOk, leftItems, leftShaped}
 
 -- the bytes that a whole head or line has
 module _ (bs : List ℕ) (c : Cursor) (more : isMore bs c ≡ true) where

@@ -4,7 +4,7 @@ use mathlib.Core.List.{List}
 use Prim.Native.Nat.{ℕ, _+_}
 use lib.Dec.{leb}
 use lib.ListN.{length}
-use Rattle.fileform.specs.Walk.{wordAt}
+use Rattle.coding.specs.Coding.{wordAt}
 use Rattle.fileform.specs.declared.reader.Step.{Step}
 use Rattle.fileform.specs.declared.reader.Step.the-variants.{Word, End}
 

@@ -7,13 +7,9 @@ use lib.ListN.{length, getD, drop}
 use Rattle.rules.specs.Entry.{keyOf}
 use Rattle.rules.specs.Words.{valueOf}
 use Rattle.rules.specs.DayFile.{Item, line, headItem, linesIn, partyIn, isHead, isLine, isShaped, itemsFrom, wordsOf}
+use Rattle.coding.specs.Coding.{wordAt}
 use Rattle.fileform.specs.declared.Cursor.{Cursor}
 use Rattle.fileform.specs.declared.Line.{Line}
-
--- the little-endian word at a byte
-unfoldable pub wordAt : List ℕ → ℕ → ℕ
-wordAt bs at =
-    getD bs at 0 + getD bs (at + 1) 0 * 256 + getD bs (at + 2) 0 * 65536 + getD bs (at + 3) 0 * 16777216
 
 abbrev pub start : Cursor
 start = record { at = 0; left = 0; party = 0; day = 0 }

@@ -1,9 +1,6 @@
 // The reader of a day file carries the lent bytes and how far it has come (01, 'Day file').
 // The functions over it are thin: `step_at`, on a slice and a number, does the decoding, and others call `step_from`.
 ghost use mathlib.Core.Path.{_≡_};
-ghost use Prim.Native.Nat.{_+_, _*_, _≤_};
-ghost use lib.ListN.{length};
-ghost use Rattle.fileform.specs.Walk.{wordAt};
 ghost use Rattle.fileform.specs.Read.{stepAt};
 
 pub struct Reader<'a> {
@@ -17,20 +14,6 @@ pub enum Step {
     End,
 }
 
-fn word_of(a: u8, b: u8, c: u8, d: u8) -> u32
-    ensures { λ r. ⌜ r ≡ a + b * 256 + c * 65536 + d * 16777216 ⌝ }
-{
-    a as u32 + b as u32 * 256 + c as u32 * 65536 + d as u32 * 16777216
-}
-
-// The little-endian word at a byte.
-fn decode(bytes: &[u8], at: usize) -> u32
-    requires { ⌜ at + 4 ≤ length (now bytes) ⌝ }
-    ensures { λ r. ⌜ r ≡ wordAt (now (bytes .entry)) at ⌝ }
-{
-    word_of(bytes[at], bytes[at + 1], bytes[at + 2], bytes[at + 3])
-}
-
 // The work: what stands at a byte of a slice.
 pub fn step_at(bytes: &[u8], at: usize) -> Step
     ensures { λ r. ⌜ r ≡ stepAt (now (bytes .entry)) at ⌝ }
@@ -42,7 +25,7 @@ pub fn step_at(bytes: &[u8], at: usize) -> Step
     if size - 4 < at {
         return Step::End;
     }
-    Step::Word(decode(bytes, at), at + 4)
+    Step::Word(coding::word_at(bytes, at), at + 4)
 }
 
 // A reader that has come to a byte.

@@ -16,8 +16,8 @@ returns-2 : tie.Need-returns-2
 unfolding stepAt
 returns-2 c = rw (lt-leb (c .before .before .before .args .at + 4) (length (c .before .before .before .args .bytes .now)) (omega arith))
 
-decode-requires : tie.Need-decode-requires
-decode-requires c κs = search needs
+word-at-requires : tie.Need-word-at-requires
+word-at-requires c κs = search needs
 
 add-t5 : tie.Need-add-t5
 add-t5 c = search needs
@@ -26,7 +26,7 @@ returns-3 : tie.Need-returns-3
 unfolding stepAt
 returns-3 c =
     let a = c .before .before .before .before .args in
-    rw (le-leb (a .at + 4) (length (a .bytes .now)) (omega arith), c .decode .ensures)
+    rw (le-leb (a .at + 4) (length (a .bytes .now)) (omega arith), c .word-at .ensures)
 
 pub step-at-spec : {M : Type 1} → statement M
-step-at-spec = tie.close (tie.spec returns returns-2 decode-requires add-t5 returns-3)
+step-at-spec = tie.close (tie.spec returns returns-2 word-at-requires add-t5 returns-3)
