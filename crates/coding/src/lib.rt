@@ -1,4 +1,4 @@
-// Internal: words out of bytes, little-endian, and back, for the C calls. A caller meets each `requires`.
+// Internal: words out of bytes, little-endian, and back, for the C calls and the day file. A caller meets each `requires`.
 ghost use mathlib.Core.Path.{_≡_};
 ghost use Prim.Native.Nat.{_+_, _*_, _≤_};
 ghost use mathlib.Core.List.{[], _∷_, _++_};
