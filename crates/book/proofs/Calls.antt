@@ -12,7 +12,7 @@ use Rattle.rules.specs.Book.{postCause, postAnswer, postWords, posted, storedAt
 use Rattle.rules.specs.declared.Posted.{Posted}
 use Rattle.rules.proofs.WordLaws.{room-words, book-facts}
 use Rattle.rules.proofs.BookLaws.{new-legal, post-passes, withdraw-passes}
-use Rattle.book.proofs.BookCode.{Placed, book-entry}
+use Rattle.words.proofs.BookCode.{Placed, book-entry}
 
 module _ (ws : List ℕ) (k : Key) (a : ℕ) {cause : ℕ} (e : cause ≡ postCause ws k a) where
   pub post-refuses : (cause ≡ 0 → ⊥) → (_≡_ {A = Posted} (record { answer = cause; number = 0 }) (postAnswer ws k a)) × (ws ≡ postWords ws k a)

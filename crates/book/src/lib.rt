@@ -4,12 +4,6 @@ ghost use lib.ListN.{length};
 ghost use Rattle.rules.specs.Entry.{keyOf};
 ghost use Rattle.rules.specs.Words.{isBook};
 ghost use Rattle.rules.specs.Book.{openCause, openWords, defaultCoefficient, defaultTolerance, postCause, postAnswer, postWords, withdrawCause, withdrawWords, countAnswer, noRead, readAnswer};
-use refusals::BAD_FIGURE;
-use refusals::BAD_LENGTH;
-use refusals::DAY_CLOSED;
-use refusals::NO_ENTRY;
-use refusals::NO_ROOM;
-use refusals::NOT_A_BOOK;
 use rules::Counted;
 use rules::EntryRead;
 use rules::Posted;
@@ -20,9 +14,12 @@ use words::MOST_COEFFICIENT;
 use words::MOST_TOLERANCE;
 use words::TOLERANCE_WORD;
 use words::WITHDRAWN;
-
-pub mod refusals;
-pub mod words;
+use words::refusals::BAD_FIGURE;
+use words::refusals::BAD_LENGTH;
+use words::refusals::DAY_CLOSED;
+use words::refusals::NO_ENTRY;
+use words::refusals::NO_ROOM;
+use words::refusals::NOT_A_BOOK;
 
 // Whether the words are a book.
 pub fn is_book(book: &[u32]) -> bool

@@ -20,7 +20,7 @@ use Rattle.rules.specs.Balance.{counted, sumOf}
 use Rattle.rules.specs.Collateral.{Money, debtOf, debts, moneyOf}
 use Rattle.rules.proofs.SumOrder.{forTests, CountsFor, counts-for}
 use Rattle.rules.proofs.WordLaws.{entry-facts, legal-bounds, within-true}
-use Rattle.book.proofs.BookCode.{read-from, book-entry}
+use Rattle.words.proofs.BookCode.{read-from, book-entry}
 use Rattle.collateral.specs.Window.{AtMost, cellCount, windowDays, inWindow, cellOf, addedAt, filled, windowOf, moneyIn}
 use Rattle.collateral.specs.Walk.{chosen, leftAfter, owed}
 

@@ -1,13 +1,12 @@
 // Collateral: each item and the total of a case (document 01, 'Collateral').
 ghost use mathlib.Core.Path.{_≡_};
 ghost use Rattle.rules.specs.Collateral.{collateralCause, collateralAnswer};
-use book::refusals::BAD_DAY;
-use book::refusals::BAD_FIGURE;
-use book::refusals::BAD_PARTY;
-use book::refusals::NOT_A_BOOK;
-use book::words;
 use rules::Case;
 use rules::Collateral;
+use words::refusals::BAD_DAY;
+use words::refusals::BAD_FIGURE;
+use words::refusals::BAD_PARTY;
+use words::refusals::NOT_A_BOOK;
 
 mod debts;
 mod items;

@@ -6,7 +6,6 @@ ghost use lib.ListN.{length, drop};
 ghost use Rattle.rules.specs.Entry.{mostMoney};
 ghost use Rattle.rules.specs.Words.{decode, isBook, entries};
 ghost use Rattle.collateral.specs.Window.{mostInCell, AtMost, cellOf, addedAt, windowOf};
-use book::words;
 
 const CELLS: usize = 120;
 

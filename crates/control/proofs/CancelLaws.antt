@@ -20,7 +20,7 @@ use Rattle.rules.specs.Control.{Parties, isToCancel, cancelOf}
 use Rattle.rules.specs.declared.EntryRead.{EntryRead}
 use Rattle.rules.proofs.WordLaws.{Fits, IsLaid, laid-book, book-facts, book-laid, legal-bounds}
 use Rattle.rules.proofs.BookLaws.{entry-at-laid, restatused-laid, withStatus}
-use Rattle.book.proofs.BookCode.{Placed, book-entry}
+use Rattle.words.proofs.BookCode.{Placed, book-entry}
 use Rattle.control.specs.Tables.{recordRead, cancelledWords}
 use Rattle.control.proofs.ControlLaws.{cancelOne, to-cancel-is-sale, one-legal}
 

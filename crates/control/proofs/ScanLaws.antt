@@ -15,7 +15,7 @@ use Rattle.rules.specs.Ledger.{noRecord}
 use Rattle.rules.specs.declared.EntryRead.{EntryRead}
 use Rattle.rules.proofs.WordLaws.{book-facts}
 use Rattle.rules.proofs.BookLaws.{entry-at}
-use Rattle.book.proofs.BookCode.{book-long, book-entry}
+use Rattle.words.proofs.BookCode.{book-long, book-entry}
 use Rattle.control.specs.Tables.{over, added, recordRead, mostCell, tableOf, noSums}
 use Rattle.control.proofs.TableLaws.{over-step, table-below}
 

@@ -1,10 +1,9 @@
 // Control of a day (document 01, 'Control of a day').
 ghost use mathlib.Core.Path.{_≡_};
 ghost use Rattle.rules.specs.Control.{controlCause, controlAnswer, controlWords};
-use book::refusals;
-use book::words;
 use rules::Controlled;
 use sums::NUMBERS;
+use words::refusals;
 
 mod bits;
 mod pairs;

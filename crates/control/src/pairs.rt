@@ -9,7 +9,6 @@ ghost use Rattle.control.specs.Tables.{flagged, noFlags, recordRead, noP
 use crate::bits;
 use crate::bits::Bits;
 use crate::sums::Flags;
-use book::words;
 use rules::EntryRead;
 
 // The billing period of a day.

@@ -11,7 +11,6 @@ ghost use Rattle.rules.specs.Control.{isToCancel, detectedParties};
 ghost use Rattle.control.specs.Tables.{flagged, recordRead, cancelledWords, passOf};
 use crate::sums::Flags;
 use crate::sums::NUMBERS;
-use book::words;
 use rules::EntryRead;
 
 // The parties detected in a pass and the entries cancelled.

@@ -9,7 +9,6 @@ ghost use Rattle.rules.specs.Words.{isBook, entries};
 ghost use Rattle.rules.specs.Balance.{dayAhead, balanceOf, isDetected};
 ghost use Rattle.position.specs.Bounded.{Bounded};
 ghost use Rattle.control.specs.Tables.{flagged, noFlags, recordRead, counts, addTo, added, mostCell, noSums, tableOf, tallyAt, boughtCell, Flaggable, detectedAmong, checked};
-use book::words;
 use position::parts;
 use rules::EntryRead;
 use rules::Tally;

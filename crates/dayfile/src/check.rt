@@ -10,14 +10,14 @@ ghost use Rattle.rules.specs.Book.{isMarkOf, isClosed};
 ghost use Rattle.rules.specs.DayFile.{line, emptyBlock, itemCause, items, mostBytes, isFile, fileAnswer};
 ghost use Rattle.fileform.specs.Walk.{isMore, itemsAt};
 ghost use Rattle.dayfile.specs.Check.{tableDays, causeBy, firstCause, linesAt, scanned};
-use book::refusals::BAD_DAY;
-use book::refusals::BAD_PARTY;
-use book::refusals::DAY_CLOSED;
-use book::refusals::NO_ROOM;
-use book::words::MARK;
 use fileform::Cursor;
 use fileform::walk;
 use rules::FileRead;
+use words::MARK;
+use words::refusals::BAD_DAY;
+use words::refusals::BAD_PARTY;
+use words::refusals::DAY_CLOSED;
+use words::refusals::NO_ROOM;
 
 // Marks the day of a mark as closed.
 fn close_at(book: &[u32], at: usize, closed: &mut [bool])
@@ -26,10 +26,10 @@ fn close_at(book: &[u32], at: usize, closed: &mut [bool])
     requires { ⌜ length (now closed) ≡ tableDays ⌝ }
     ensures { λ _. ⌜ ((d : ℕ) → d < tableDays → getD (now (closed .exit)) d false ≡ getD (now (closed .entry)) d false || isMarkOf d (decode (drop at (now (book .entry))))) ⌝ }
 {
-    if book::words::type_at(book, at) != MARK {
+    if words::type_at(book, at) != MARK {
         return;
     }
-    let day = book::words::day_at(book, at) as usize;
+    let day = words::day_at(book, at) as usize;
     closed[day] = true;
 }
 
@@ -39,7 +39,7 @@ pub fn close_days(book: &[u32], closed: &mut [bool])
     requires { ⌜ length (now closed) ≡ tableDays ⌝ }
     ensures { λ _. ⌜ ((d : ℕ) → d < tableDays → getD (now (closed .exit)) d false ≡ getD (now (closed .entry)) d false || isClosed d (entries (now (book .entry)))) ⌝ }
 {
-    let count = book::words::count_of(book) as usize;
+    let count = words::count_of(book) as usize;
     let mut i = 0;
     while i < count {
         close_at(book, 3 + 5 * i, closed);
@@ -51,10 +51,10 @@ pub fn close_days(book: &[u32], closed: &mut [bool])
 pub fn block_cause(party: u32, day: u32) -> u32
     ensures { λ r. ⌜ r ≡ itemCause [] (emptyBlock party day) ⌝ }
 {
-    if !book::words::party_ok(party) {
+    if !words::party_ok(party) {
         return BAD_PARTY;
     }
-    if !book::words::day_ok(day) {
+    if !words::day_ok(day) {
         return BAD_DAY;
     }
     0
@@ -71,11 +71,11 @@ pub fn line_cause(
     requires { ⌜ length (now closed) ≡ tableDays ⌝ }
     ensures { λ r. ⌜ r ≡ causeBy (now (closed .entry)) (line (keyOf party day «entry_type» counterparty) amount) ⌝ }
 {
-    let fault = book::words::fault_of(party, day, entry_type, counterparty, amount);
+    let fault = words::fault_of(party, day, entry_type, counterparty, amount);
     if fault != 0 {
         return fault;
     }
-    if !book::words::is_bilateral(entry_type, counterparty) {
+    if !words::is_bilateral(entry_type, counterparty) {
         return 0;
     }
     if closed[day as usize] {
@@ -153,8 +153,8 @@ fn answer_with(book: &[u32], file: &[u8], closed: &mut [bool]) -> FileRead
     if found.answer != 0 {
         return found;
     }
-    let used = book::words::count_of(book) as usize + found.posted as usize;
-    if book::words::room(book.len()) < used {
+    let used = words::count_of(book) as usize + found.posted as usize;
+    if words::room(book.len()) < used {
         return crate::refused(NO_ROOM);
     }
     found

@@ -2,10 +2,10 @@
 ghost use mathlib.Core.Path.{_≡_};
 ghost use Rattle.rules.specs.DayFile.{isFile, fileAnswer, fileWords};
 ghost use Rattle.dayfile.specs.Check.{nonePosted};
-use book::refusals::NOT_A_BOOK;
-use book::words::COUNT_WORD;
 use fileform::walk;
 use rules::FileRead;
+use words::COUNT_WORD;
+use words::refusals::NOT_A_BOOK;
 
 mod check;
 pub mod names;
@@ -55,7 +55,7 @@ pub fn read_file(book: &mut [u32], file: &[u8]) -> FileRead
     if found.answer != 0 {
         return found;
     }
-    let count = book::words::count_of(book);
+    let count = words::count_of(book);
     post::store_lines(book, file, count as usize);
     book[0] = COUNT_WORD + (count + found.posted);
     found

@@ -24,7 +24,7 @@ fn store_at(book: &mut [u32], place: usize, file: &[u8], c: Cursor) -> usize
         return place;
     }
     let next = walk::line_at(file, at);
-    book::words::store_entry(
+    words::store_entry(
         book,
         place,
         c.party,

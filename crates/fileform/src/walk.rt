@@ -10,7 +10,7 @@ use crate::Cursor;
 use crate::Line;
 use crate::reader;
 use crate::reader::Step;
-use book::words::KIND;
+use words::KIND;
 
 // The word at a byte, by way of a reader.
 pub fn word_at(file: &[u8], at: usize) -> u32

@@ -2,14 +2,14 @@
 ghost use mathlib.Core.Path.{_≡_};
 ghost use lib.ListN.{length};
 ghost use Rattle.fileform.specs.Write.{headWords, lineWords, putCause, putWords};
-use book::refusals::BAD_FIGURE;
-use book::refusals::BAD_LENGTH;
-use book::words::DAY_WORD;
-use book::words::FIGURES_WORD;
-use book::words::HIGH_WORD;
-use book::words::KIND;
-use book::words::LOW_WORD;
-use book::words::PARTY_WORD;
+use words::DAY_WORD;
+use words::FIGURES_WORD;
+use words::HIGH_WORD;
+use words::KIND;
+use words::LOW_WORD;
+use words::PARTY_WORD;
+use words::refusals::BAD_FIGURE;
+use words::refusals::BAD_LENGTH;
 
 // A block's head; refused by 12 where a figure does not fit its bits.
 #[repr(C)]

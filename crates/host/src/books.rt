@@ -6,10 +6,10 @@ ghost use Rattle.rules.specs.Words.{isBook};
 ghost use Rattle.rules.specs.Refusals.{notABook};
 ghost use Rattle.rules.specs.Book.{openCause, openWords, defaultCoefficient, defaultTolerance, postAnswer, postWords, withdrawCause, withdrawWords, countAnswer, noRead, readAnswer};
 ghost use Rattle.coding.specs.Bytes.{onWords, withWords, yesNo};
-use book::refusals::NOT_A_BOOK;
 use rules::Counted;
 use rules::EntryRead;
 use rules::Posted;
+use words::refusals::NOT_A_BOOK;
 
 // 1 if the bytes are a book, else 0.
 #[no_mangle]

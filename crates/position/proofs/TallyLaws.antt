@@ -23,7 +23,7 @@ use Rattle.rules.specs.declared.TallyAnswer.{TallyAnswer}
 use Rattle.rules.proofs.WordLaws.{no-fault, legal-bounds, entry-facts, bits-back, word-of, read-legal, length-read, book-facts}
 use Rattle.rules.proofs.SumOrder.{forTests, toTests}
 use Rattle.rules.proofs.Limits.{volume-sum, bought-sum}
-use Rattle.book.proofs.BookCode.{book-within, book-entry}
+use Rattle.words.proofs.BookCode.{book-within, book-entry}
 use Rattle.position.specs.Bounded.{mostSum, SumsWithin}
 use Rattle.position.specs.Scan.{scanned}
 

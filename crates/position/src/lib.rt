@@ -14,13 +14,13 @@ fn cause_of(book: &[u32], party: u32, day: u32) -> u32
     ensures { λ r. ⌜ r ≡ partyDayCause (now (book .entry)) party day ⌝ }
 {
     if !book::is_book(book) {
-        return book::refusals::NOT_A_BOOK;
+        return words::refusals::NOT_A_BOOK;
     }
-    if !book::words::party_ok(party) {
-        return book::refusals::BAD_PARTY;
+    if !words::party_ok(party) {
+        return words::refusals::BAD_PARTY;
     }
-    if !book::words::day_ok(day) {
-        return book::refusals::BAD_DAY;
+    if !words::day_ok(day) {
+        return words::refusals::BAD_DAY;
     }
     0
 }
@@ -64,8 +64,8 @@ fn balance_with(ahead: bool, book: &[u32], party: u32, day: u32) -> BalanceAnswe
         ahead,
         t,
         read.bought,
-        book::words::coefficient_of(book),
-        book::words::tolerance_of(book),
+        words::coefficient_of(book),
+        words::tolerance_of(book),
     );
     BalanceAnswer { answer: 0, balance }
 }

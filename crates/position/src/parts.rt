@@ -8,7 +8,6 @@ ghost use Rattle.position.specs.Scan.{scanned, noneFor};
 ghost use Rattle.rules.specs.Entry.{lastParty, lastDay};
 ghost use Rattle.rules.specs.Words.{isBook, entries, mostCoefficient, mostTolerance};
 ghost use Rattle.rules.specs.Balance.{noTally, balanceOf, saleSide, coverSide, dayAhead, delivery};
-use book::words;
 use rules::Tally;
 use rules::TallyAnswer;
 

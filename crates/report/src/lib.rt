@@ -10,7 +10,6 @@ ghost use Rattle.dayfile.specs.Names.{namesParty};
 ghost use Rattle.report.specs.Text.{Wrote};
 ghost use Rattle.report.specs.Asked.{Asked};
 ghost use Rattle.report.specs.Report.{header, refusal, lineText, lineOf, eachFrom, partyLines, allLines, reportInto, reportOn};
-use book::words;
 use position::parts;
 
 pub mod input;

@@ -1,8 +1,8 @@
 -- `book::count` meets its contract. Assumes nothing.
 use borrow.Author.Needs.{needs}
 use Rattle.rules.specs.Book.{countAnswer, countCause}
-use Rattle.book.proofs.Ladder.{passed, failed}
-use Rattle.book.proofs.BookCode.{book-long}
+use Rattle.words.proofs.Ladder.{passed, failed}
+use Rattle.words.proofs.BookCode.{book-long}
 use Rattle.book.proofs.count.Statement.{statement}
 use Rattle.book.proofs.count.Tie as tie
 

@@ -4,8 +4,8 @@ use borrow.Author.Tests.{lt-ltb, le-ltb}
 use borrow.Author.Needs.{needs}
 use Rattle.rules.specs.Words.{countOf}
 use Rattle.rules.specs.Book.{readAnswer, readCause, entryAt}
-use Rattle.book.proofs.Ladder.{passed, failed}
-use Rattle.book.proofs.BookCode.{book-long, book-entry}
+use Rattle.words.proofs.Ladder.{passed, failed}
+use Rattle.words.proofs.BookCode.{book-long, book-entry}
 use Rattle.book.proofs.entry.Statement.{statement}
 use Rattle.book.proofs.entry.Tie as tie
 

@@ -1,7 +1,7 @@
 -- `book::is_book` meets its contract. Assumes nothing.
 use native.Mathlib.Omega.{arith}
 use borrow.Author.Needs.{needs}
-use Rattle.book.proofs.BookCode.{too-short, head-fails, head-holds, head-room}
+use Rattle.words.proofs.BookCode.{too-short, head-fails, head-holds, head-room}
 use Rattle.book.proofs.is_book.Statement.{statement}
 use Rattle.book.proofs.is_book.Tie as tie
 

@@ -7,8 +7,8 @@ use borrow.Author.Needs.{needs}
 use Rattle.numbers.proofs.CauseLaws.{else-stop}
 use Rattle.rules.specs.Words.{countOf, roomIn}
 use Rattle.rules.specs.Book.{postCause, shutTo}
-use Rattle.book.proofs.Ladder.{passed, failed}
-use Rattle.book.proofs.BookCode.{book-long}
+use Rattle.words.proofs.Ladder.{passed, failed}
+use Rattle.words.proofs.BookCode.{book-long}
 use Rattle.book.proofs.post_cause.Statement.{statement}
 use Rattle.book.proofs.post_cause.Tie as tie
 

@@ -4,9 +4,9 @@ use borrow.Author.Tests.{lt-ltb, le-ltb}
 use borrow.Author.Needs.{needs}
 use Rattle.rules.specs.Words.{countOf}
 use Rattle.rules.specs.Book.{withdrawCause, entryAt}
-use Rattle.book.specs.Parts.{kept}
-use Rattle.book.proofs.Ladder.{passed, failed}
-use Rattle.book.proofs.BookCode.{book-long, book-entry}
+use Rattle.words.specs.Parts.{kept}
+use Rattle.words.proofs.Ladder.{passed, failed}
+use Rattle.words.proofs.BookCode.{book-long, book-entry}
 use Rattle.book.proofs.withdraw_cause.Statement.{statement}
 use Rattle.book.proofs.withdraw_cause.Tie as tie
 

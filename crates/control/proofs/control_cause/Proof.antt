@@ -4,8 +4,8 @@ use mathlib.Core.Bool.{true, false}
 use Rattle.rules.specs.Entry.{dayOk}
 use Rattle.rules.specs.Words.{isBook, entries}
 use Rattle.rules.specs.Book.{isClosed}
-use Rattle.book.proofs.Ladder.{passed, failed}
-use Rattle.book.proofs.BookCode.{book-long}
+use Rattle.words.proofs.Ladder.{passed, failed}
+use Rattle.words.proofs.BookCode.{book-long}
 use Rattle.control.proofs.RunLaws.{cause-book, cause-day, cause-closed, cause-room, cause-none}
 use borrow.Author.Needs.{needs}
 use Rattle.control.proofs.control_cause.Statement.{statement}

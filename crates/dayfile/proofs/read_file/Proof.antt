@@ -1,8 +1,8 @@
 -- `dayfile::read_file` meets its contract. Assumes nothing.
 use mathlib.Core.Path.{_∙_}
 use native.Mathlib.Omega.{arith}
-use Rattle.book.proofs.BookCode.{book-long}
-use Rattle.book.proofs.Ladder.{passed, failed}
+use Rattle.words.proofs.BookCode.{book-long}
+use Rattle.words.proofs.Ladder.{passed, failed}
 use Rattle.dayfile.proofs.FileLaws.{not-a-book, not-a-file, refused-words, done-passes, done-within, done-legal, done-count, done-words}
 use borrow.Author.Needs.{needs}
 use Rattle.dayfile.proofs.read_file.Statement.{statement}

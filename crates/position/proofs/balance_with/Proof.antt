@@ -5,7 +5,7 @@ use mir.Syntax.{w64}
 use mir.ValLaws.{toZ-ofZ}
 use borrow.Author.Needs.{needs}
 use Rattle.rules.specs.Balance.{dayAhead, delivery}
-use Rattle.book.proofs.BookCode.{book-long}
+use Rattle.words.proofs.BookCode.{book-long}
 use Rattle.position.proofs.AnswerLaws.{passes, balance-refused, balance-done, read-bounded}
 use Rattle.position.proofs.balance_with.Statement.{statement}
 use Rattle.position.proofs.balance_with.Tie as tie

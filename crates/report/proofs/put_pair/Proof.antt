@@ -3,7 +3,7 @@ use mathlib.Core.Path.{_∙_}
 use mir.Syntax.{w64}
 use mir.ValLaws.{toZ-ofZ}
 use Rattle.rules.specs.Balance.{dayAhead, delivery}
-use Rattle.book.proofs.BookCode.{book-long}
+use Rattle.words.proofs.BookCode.{book-long}
 use Rattle.position.proofs.AnswerLaws.{read-bounded}
 use Rattle.report.specs.Report.{lineOf}
 use Rattle.report.proofs.ReportLaws.{asked-balance}

@@ -6,7 +6,7 @@ use lib.ListN.{drop}
 use Rattle.rules.specs.Entry.{mostMoney}
 use Rattle.rules.specs.Words.{countOf, entries, readEntries}
 use Rattle.rules.proofs.WordLaws.{book-facts}
-use Rattle.book.proofs.BookCode.{book-entry}
+use Rattle.words.proofs.BookCode.{book-entry}
 use Rattle.collateral.specs.Window.{AtMost, filled, windowOf}
 use Rattle.collateral.proofs.WindowLaws.{window-start, window-more, window-end, money-at, none-at-most, added-at-most}
 use borrow.Author.Needs.{needs}

@@ -3,7 +3,7 @@ use mathlib.Core.Path.{_≡_, refl, sym, _∙_}
 use Prim.Native.Nat.{_+_, _≤_}
 use native.Mathlib.Omega.{arith}
 use lib.ListN.{length}
-use Rattle.book.proofs.BookCode.{book-long}
+use Rattle.words.proofs.BookCode.{book-long}
 use Rattle.rules.proofs.BookLaws.{mark-legal}
 use Rattle.control.proofs.RunLaws.{mark-place, mark-posted}
 use borrow.Author.Needs.{needs}

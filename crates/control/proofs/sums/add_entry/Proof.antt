@@ -1,7 +1,7 @@
 -- `control::sums::add_entry` meets its contract. Assumes nothing.
 use mathlib.Core.Path.{_≡_, sym, _∙_}
 use native.Mathlib.Omega.{arith}
-use Rattle.book.proofs.Ladder.{passed, failed}
+use Rattle.words.proofs.Ladder.{passed, failed}
 use Rattle.control.specs.Tables.{recordRead}
 use Rattle.control.proofs.TableLaws.{Counted, counted-facts, not-counted, add-fits, add-fits-again, sum-only, sum-and-bought}
 use borrow.Author.Needs.{needs}

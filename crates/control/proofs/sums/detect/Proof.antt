@@ -1,6 +1,6 @@
 -- `control::sums::detect` meets its contract. Assumes nothing.
 use mathlib.Core.Path.{_≡_, refl, _∙_}
-use Rattle.book.proofs.BookCode.{book-long}
+use Rattle.words.proofs.BookCode.{book-long}
 use Rattle.control.specs.Tables.{noSums}
 use Rattle.control.proofs.DetectLaws.{flaggable, table-detects}
 use borrow.Author.Needs.{needs}

@@ -1,7 +1,7 @@
 -- `dayfile::check::answer_with` meets its contract. Assumes nothing.
 use mathlib.Core.Path.{_∙_}
 use Rattle.rules.specs.Words.{entries}
-use Rattle.book.proofs.BookCode.{book-long}
+use Rattle.words.proofs.BookCode.{book-long}
 use Rattle.dayfile.proofs.AnswerLaws.{TableOf, file-bytes, answer-refused, answer-full, answer-done}
 use borrow.Author.Needs.{needs}
 use Rattle.dayfile.proofs.check.answer_with.Statement.{statement}

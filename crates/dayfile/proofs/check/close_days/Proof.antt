@@ -13,7 +13,7 @@ use native.Mathlib.Omega.{arith}
 use lib.ListN.{length, getD, drop}
 use Rattle.rules.specs.Words.{entries, readEntries}
 use Rattle.rules.specs.Book.{isClosed}
-use Rattle.book.proofs.BookCode.{book-long, book-entry, closed-from}
+use Rattle.words.proofs.BookCode.{book-long, book-entry, closed-from}
 use Rattle.dayfile.specs.Check.{tableDays}
 use borrow.Author.Needs.{needs}
 use Rattle.dayfile.proofs.check.close_days.Statement.{statement}

@@ -2,7 +2,7 @@
 use mathlib.Core.Path.{sym, _∙_}
 use native.Mathlib.Omega.{arith}
 use Rattle.rules.proofs.WordLaws.{no-fault}
-use Rattle.book.proofs.Ladder.{passed, failed}
+use Rattle.words.proofs.Ladder.{passed, failed}
 use Rattle.dayfile.specs.Check.{causeBy}
 use Rattle.numbers.proofs.CauseLaws.{else-stop}
 use borrow.Author.Needs.{needs}

@@ -5,7 +5,7 @@ use lib.Dec.{eqb}
 use lib.ListN.{getD}
 use borrow.Author.Tests.{eq-eqb, ne-eqb}
 use Rattle.rules.specs.DayFile.{emptyBlock, itemNames}
-use Rattle.book.proofs.Ladder.{passed, failed}
+use Rattle.words.proofs.Ladder.{passed, failed}
 use Rattle.fileform.specs.Walk.{lineItem}
 use Rattle.fileform.proofs.WalkLaws.{head-whole, line-whole}
 use Rattle.dayfile.proofs.CheckLaws.{block-held, nothing-held, line-held}

@@ -1,6 +1,6 @@
 -- `fileform::walk::shaped` meets its contract. The loop's invariant: the shape of the file is that of what is left. Assumes nothing.
 use Prim.Native.Nat.{zero-le}
-use Rattle.book.proofs.Ladder.{passed, failed}
+use Rattle.words.proofs.Ladder.{passed, failed}
 use mathlib.Core.Path.{_≡_, refl, sym, _∙_}
 use Prim.Native.Nat.{_≤_, _-_}
 use lib.ListN.{length}

@@ -7,7 +7,7 @@ use lib.ListN.{getD}
 use borrow.Author.Needs.{needs}
 use Rattle.rules.specs.Words.{entries, countOf}
 use Rattle.rules.specs.Balance.{tallyOf}
-use Rattle.book.proofs.BookCode.{book-long}
+use Rattle.words.proofs.BookCode.{book-long}
 use Rattle.position.proofs.TallyLaws.{SoFar, Adds, readAt, none-yet, all-read, adds-same, bought-to, own-adds, own-none, sold-adds, sold-none, readTo}
 use Rattle.position.proofs.parts.tallied.Statement.{statement}
 use Rattle.position.proofs.parts.tallied.Tie as tie

@@ -1,0 +1,3 @@
+pub mod Ladder
+pub mod BookCode
+pub mod EntryWords

@@ -1,0 +1,426 @@
+// Internal: the words of a book, for the crates above it. A caller meets each `requires`.
+ghost use mathlib.Core.Path.{_≡_};
+ghost use mathlib.Core.Bool.{true};
+ghost use mathlib.Core.List.{[], _∷_};
+ghost use Prim.Native.Nat.{_+_, _*_, _≤_};
+ghost use lib.Dec.{leb};
+ghost use lib.ListN.{length, drop};
+ghost use Rattle.rules.specs.Entry.{keyOf, recordOf, key, partyOk, dayOk, isType, isMoney, isBilateral, counterpartyOk, amountLimit, fault, statusOk, markOk, legal, standing};
+ghost use Rattle.words.specs.Parts.{figuresOk, kept};
+ghost use Rattle.rules.specs.Words.{decode, entryOk, entriesOk, roomIn, countOf, coefficientOf, toleranceOf, isBook, entries};
+ghost use Rattle.rules.specs.Book.{isMarkOf, isClosed, shutTo, placeOf, storedAt, restatused, readOf};
+use refusals::BAD_AMOUNT;
+use refusals::BAD_COUNTERPARTY;
+use refusals::BAD_DAY;
+use refusals::BAD_PARTY;
+use refusals::BAD_TYPE;
+use refusals::DAY_CLOSED;
+use refusals::NO_ENTRY;
+use rules::EntryRead;
+
+pub mod refusals;
+
+// A word's top four bits of 32 are its kind (01, 'The words').
+pub const KIND: u32 = 268435456;
+
+// The word of each kind with value 0: an entry's five, and the three before the entries.
+pub const PARTY_WORD: u32 = 0x10000000;
+
+pub const DAY_WORD: u32 = 0x20000000;
+
+pub const FIGURES_WORD: u32 = 0x30000000;
+
+pub const LOW_WORD: u32 = 0x40000000;
+
+pub const HIGH_WORD: u32 = 0x50000000;
+
+pub const COUNT_WORD: u32 = 0x60000000;
+
+pub const COEFFICIENT_WORD: u32 = 0x70000000;
+
+pub const TOLERANCE_WORD: u32 = 0x80000000;
+
+// Limits (01, 'The words', 'Entry types').
+pub const LAST_PARTY: u32 = 999;
+
+pub const LAST_DAY: u32 = 36524;
+
+pub const MOST_VOLUME: u64 = 1000000000;
+
+pub const MOST_MONEY: u64 = 1000000000000;
+
+pub const MOST_ENTRIES: usize = 3072;
+
+pub const MOST_COEFFICIENT: u32 = 1000;
+
+pub const MOST_TOLERANCE: u32 = 200000000;
+
+// Types and statuses with a rule of their own.
+pub const BILATERAL: u32 = 6;
+
+pub const MARK: u32 = 21;
+
+pub const STANDING: u32 = 0;
+
+pub const WITHDRAWN: u32 = 1;
+
+pub const CANCELLED: u32 = 2;
+
+// Checks 3 to 7 of a post, one each (01, 'Entry types').
+pub fn party_ok(party: u32) -> bool
+    ensures { λ r. ⌜ r ≡ partyOk party ⌝ }
+{
+    (1 <= party) & (party <= LAST_PARTY)
+}
+
+pub fn day_ok(day: u32) -> bool
+    ensures { λ r. ⌜ r ≡ dayOk day ⌝ }
+{
+    day <= LAST_DAY
+}
+
+pub fn is_money(entry_type: u32) -> bool
+    ensures { λ r. ⌜ r ≡ isMoney «entry_type» ⌝ }
+{
+    (17 <= entry_type) & (entry_type <= 20)
+}
+
+pub fn is_type(entry_type: u32) -> bool
+    ensures { λ r. ⌜ r ≡ isType «entry_type» ⌝ }
+{
+    ((1 <= entry_type) & (entry_type <= 16)) | is_money(entry_type)
+}
+
+pub fn counterparty_ok(party: u32, entry_type: u32, counterparty: u32) -> bool
+    ensures { λ r. ⌜ r ≡ counterpartyOk (keyOf party 0 «entry_type» counterparty) ⌝ }
+{
+    if entry_type == BILATERAL {
+        (counterparty <= LAST_PARTY) & !(counterparty == party)
+    } else {
+        counterparty == 0
+    }
+}
+
+pub fn amount_ok(entry_type: u32, amount: u64) -> bool
+    ensures { λ r. ⌜ r ≡ leb amount (amountLimit «entry_type») ⌝ }
+{
+    if is_money(entry_type) {
+        amount <= MOST_MONEY
+    } else {
+        amount <= MOST_VOLUME
+    }
+}
+
+// The lowest cause of 3 to 7 that holds, or 0.
+pub fn fault_of(party: u32, day: u32, entry_type: u32, counterparty: u32, amount: u64) -> u32
+    ensures { λ r. ⌜ r ≡ fault (keyOf party day «entry_type» counterparty) amount ⌝ }
+{
+    if !party_ok(party) {
+        return BAD_PARTY;
+    }
+    if !day_ok(day) {
+        return BAD_DAY;
+    }
+    if !is_type(entry_type) {
+        return BAD_TYPE;
+    }
+    if !counterparty_ok(party, entry_type, counterparty) {
+        return BAD_COUNTERPARTY;
+    }
+    if !amount_ok(entry_type, amount) {
+        return BAD_AMOUNT;
+    }
+    0
+}
+
+// A bilateral sale with a counterparty above 0.
+pub fn is_bilateral(entry_type: u32, counterparty: u32) -> bool
+    ensures { λ r. ⌜ r ≡ isBilateral (keyOf 0 0 «entry_type» counterparty) ⌝ }
+{
+    (entry_type == BILATERAL) & (0 < counterparty)
+}
+
+// Status 2 stands only on type 6 with a counterparty above 0 (01, 'The words').
+pub fn status_ok(entry_type: u32, counterparty: u32, status: u32) -> bool
+    ensures { λ r. ⌜ r ≡ statusOk (recordOf (keyOf 0 0 «entry_type» counterparty) status 0 .label) ⌝ }
+{
+    (status <= WITHDRAWN) | ((status == CANCELLED) & is_bilateral(entry_type, counterparty))
+}
+
+fn mark_ok(
+    party: u32,
+    day: u32,
+    entry_type: u32,
+    counterparty: u32,
+    status: u32,
+    amount: u64,
+) -> bool
+    ensures { λ r. ⌜ r ≡ markOk (recordOf (keyOf party day «entry_type» counterparty) status amount) ⌝ }
+{
+    (entry_type == MARK)
+        & (day <= LAST_DAY)
+        & (party == 0)
+        & (counterparty == 0)
+        & (amount == 0)
+        & (status == STANDING)
+}
+
+// Checks 5 to 7 and the status, where party and day are in range.
+fn figures_ok(party: u32, entry_type: u32, counterparty: u32, status: u32, amount: u64) -> bool
+    ensures { λ r. ⌜ r ≡ figuresOk (recordOf (keyOf party 0 «entry_type» counterparty) status amount) ⌝ }
+{
+    is_type(entry_type)
+        & counterparty_ok(party, entry_type, counterparty)
+        & amount_ok(entry_type, amount)
+        & status_ok(entry_type, counterparty, status)
+}
+
+// The five words of an entry. Party and day are held to kind and range in one comparison of the whole word,
+// and type 6 is taken apart from the others so that each way has few tests.
+fn words_ok(party: u32, day: u32, figures: u32, low: u32, high: u32) -> bool
+    ensures { λ r. ⌜ r ≡ entryOk (party ∷ day ∷ figures ∷ low ∷ high ∷ []) ⌝ }
+{
+    if !((DAY_WORD <= day) & (day <= DAY_WORD + LAST_DAY)) {
+        return false;
+    }
+    if !((figures / KIND == 3) & (low / KIND == 4) & (high / KIND == 5)) {
+        return false;
+    }
+    let named = figures % KIND;
+    let entry_type = named % 256;
+    let counterparty = named / 256 % 65536;
+    let status = named / 16777216;
+    let amount = (low % KIND) as u64 + (high % KIND) as u64 * 268435456;
+    if !((PARTY_WORD < party) & (party <= PARTY_WORD + LAST_PARTY)) {
+        return (party / KIND == 1)
+            & mark_ok(
+                party % KIND,
+                day % KIND,
+                entry_type,
+                counterparty,
+                status,
+                amount,
+            );
+    }
+    if entry_type == BILATERAL {
+        return figures_ok(party % KIND, entry_type, counterparty, status, amount);
+    }
+    figures_ok(party % KIND, entry_type, counterparty, status, amount)
+}
+
+pub fn entry_ok(book: &[u32], at: usize) -> bool
+    requires { ⌜ at + 5 ≤ length (now book) ⌝ }
+    ensures { λ r. ⌜ r ≡ entryOk (drop at (now (book .entry))) ⌝ }
+{
+    let party = book[at];
+    let day = book[at + 1];
+    let figures = book[at + 2];
+    let low = book[at + 3];
+    let high = book[at + 4];
+    words_ok(party, day, figures, low, high)
+}
+
+// Each entry is checked once, where it lies.
+pub fn entries_ok(book: &[u32], count: usize) -> bool
+    requires { ⌜ 3 + 5 * count ≤ length (now book) ⌝ }
+    ensures { λ r. ⌜ r ≡ entriesOk count (drop 3 (now (book .entry))) ⌝ }
+{
+    let mut i = 0;
+    while i < count {
+        if !entry_ok(book, 3 + 5 * i) {
+            return false;
+        }
+        i += 1;
+    }
+    true
+}
+
+// How many entries a slice of this length has room for.
+pub fn room(lent: usize) -> usize
+    ensures { λ r. ⌜ r ≡ roomIn lent ⌝ }
+{
+    if lent < 3 {
+        return 0;
+    }
+    let places = (lent - 3) / 5;
+    if places < MOST_ENTRIES {
+        places
+    } else {
+        MOST_ENTRIES
+    }
+}
+
+// The three words before the entries.
+pub fn count_of(book: &[u32]) -> u32
+    requires { ⌜ 3 ≤ length (now book) ⌝ }
+    ensures { λ r. ⌜ r ≡ countOf (now (book .entry)) ⌝ }
+{
+    book[0] % KIND
+}
+
+pub fn coefficient_of(book: &[u32]) -> u32
+    requires { ⌜ 3 ≤ length (now book) ⌝ }
+    ensures { λ r. ⌜ r ≡ coefficientOf (now (book .entry)) ⌝ }
+{
+    book[1] % KIND
+}
+
+pub fn tolerance_of(book: &[u32]) -> u32
+    requires { ⌜ 3 ≤ length (now book) ⌝ }
+    ensures { λ r. ⌜ r ≡ toleranceOf (now (book .entry)) ⌝ }
+{
+    book[2] % KIND
+}
+
+// The place of an entry.
+pub fn place_of(number: u32) -> usize
+    ensures { λ r. ⌜ r ≡ placeOf number ⌝ }
+{
+    3 + 5 * (number as usize)
+}
+
+// The figures of the entry at a place.
+pub fn party_at(book: &[u32], at: usize) -> u32
+    requires { ⌜ at + 5 ≤ length (now book) ⌝ }
+    ensures { λ r. ⌜ r ≡ key (decode (drop at (now (book .entry)))) .party ⌝ }
+{
+    book[at] % KIND
+}
+
+pub fn day_at(book: &[u32], at: usize) -> u32
+    requires { ⌜ at + 5 ≤ length (now book) ⌝ }
+    ensures { λ r. ⌜ r ≡ key (decode (drop at (now (book .entry)))) .day ⌝ }
+{
+    book[at + 1] % KIND
+}
+
+pub fn type_at(book: &[u32], at: usize) -> u32
+    requires { ⌜ at + 5 ≤ length (now book) ⌝ }
+    ensures { λ r. ⌜ r ≡ key (decode (drop at (now (book .entry)))) .type ⌝ }
+{
+    book[at + 2] % KIND % 256
+}
+
+pub fn counterparty_at(book: &[u32], at: usize) -> u32
+    requires { ⌜ at + 5 ≤ length (now book) ⌝ }
+    ensures { λ r. ⌜ r ≡ key (decode (drop at (now (book .entry)))) .counterparty ⌝ }
+{
+    book[at + 2] % KIND / 256 % 65536
+}
+
+pub fn status_at(book: &[u32], at: usize) -> u32
+    requires { ⌜ at + 5 ≤ length (now book) ⌝ }
+    ensures { λ r. ⌜ r ≡ decode (drop at (now (book .entry))) .label .status ⌝ }
+{
+    book[at + 2] % KIND / 16777216
+}
+
+pub fn amount_at(book: &[u32], at: usize) -> u64
+    requires { ⌜ at + 5 ≤ length (now book) ⌝ }
+    ensures { λ r. ⌜ r ≡ decode (drop at (now (book .entry))) .amount ⌝ }
+{
+    (book[at + 3] % KIND) as u64 + (book[at + 4] % KIND) as u64 * 268435456
+}
+
+// A mark of a day, and a day with a mark (01, 'Control of a day').
+pub fn is_mark_of(book: &[u32], at: usize, day: u32) -> bool
+    requires { ⌜ at + 5 ≤ length (now book) ⌝ }
+    ensures { λ r. ⌜ r ≡ isMarkOf day (decode (drop at (now (book .entry)))) ⌝ }
+{
+    (type_at(book, at) == MARK) & (day_at(book, at) == day)
+}
+
+pub fn is_closed(book: &[u32], day: u32) -> bool
+    requires { ⌜ isBook (now book) ≡ true ⌝ }
+    ensures { λ r. ⌜ r ≡ isClosed day (entries (now (book .entry))) ⌝ }
+{
+    let count = (book[0] % KIND) as usize;
+    let mut i = 0;
+    while i < count {
+        if is_mark_of(book, 3 + 5 * i, day) {
+            return true;
+        }
+        i += 1;
+    }
+    false
+}
+
+// Whether the day is closed to an entry. It is looked up for a bilateral sale only.
+pub fn shut_to(book: &[u32], day: u32, entry_type: u32, counterparty: u32) -> bool
+    requires { ⌜ isBook (now book) ≡ true ⌝ }
+    ensures { λ r. ⌜ r ≡ shutTo (keyOf 0 day «entry_type» counterparty) (entries (now (book .entry))) ⌝ }
+{
+    if !is_bilateral(entry_type, counterparty) {
+        return false;
+    }
+    is_closed(book, day)
+}
+
+// Stores the five words of a standing entry at a place.
+pub fn store_entry(
+    book: &mut [u32],
+    at: usize,
+    party: u32,
+    day: u32,
+    entry_type: u32,
+    counterparty: u32,
+    amount: u64,
+)
+    requires { ⌜ at + 5 ≤ length (now book) ⌝ }
+    requires { ⌜ legal (recordOf (keyOf party day «entry_type» counterparty) standing amount) ≡ true ⌝ }
+    ensures { λ _. ⌜ now (book .exit) ≡ storedAt (now (book .entry)) at (keyOf party day «entry_type» counterparty) amount ⌝ }
+{
+    book[at] = PARTY_WORD + party;
+    book[at + 1] = DAY_WORD + day;
+    book[at + 2] = FIGURES_WORD + (entry_type + counterparty * 256);
+    book[at + 3] = LOW_WORD + (amount % 268435456) as u32;
+    book[at + 4] = HIGH_WORD + (amount / 268435456) as u32;
+}
+
+// Gives a standing entry another status; the rest of its kind 3 word stays.
+pub fn set_status(book: &mut [u32], number: usize, status: u32)
+    requires { ⌜ placeOf number + 5 ≤ length (now book) ⌝ }
+    requires { ⌜ entryOk (drop (placeOf number) (now book)) ≡ true ⌝ }
+    requires { ⌜ status ≤ 2 ⌝ }
+    ensures { λ _. ⌜ now (book .exit) ≡ restatused status (now (book .entry)) number ⌝ }
+{
+    let at = 3 + 5 * number + 2;
+    book[at] = book[at] + status * 16777216;
+}
+
+// Why the entry at a place cannot be withdrawn, or 0.
+pub fn kept_at(book: &[u32], at: usize) -> u32
+    requires { ⌜ isBook (now book) ≡ true ⌝ }
+    requires { ⌜ at + 5 ≤ length (now book) ⌝ }
+    ensures { λ r. ⌜ r ≡ kept (decode (drop at (now (book .entry)))) (entries (now (book .entry))) ⌝ }
+{
+    if status_at(book, at) != STANDING {
+        return NO_ENTRY;
+    }
+    let entry_type = type_at(book, at);
+    if entry_type == MARK {
+        return NO_ENTRY;
+    }
+    let day = day_at(book, at);
+    let counterparty = counterparty_at(book, at);
+    if shut_to(book, day, entry_type, counterparty) {
+        return DAY_CLOSED;
+    }
+    0
+}
+
+// The figures of the entry at a place, with answer 0.
+pub fn read_at(book: &[u32], at: usize) -> EntryRead
+    requires { ⌜ at + 5 ≤ length (now book) ⌝ }
+    ensures { λ r. ⌜ r ≡ readOf (decode (drop at (now (book .entry)))) ⌝ }
+{
+    EntryRead {
+        answer: 0,
+        party: party_at(book, at),
+        day: day_at(book, at),
+        entry_type: type_at(book, at),
+        counterparty: counterparty_at(book, at),
+        status: status_at(book, at),
+        amount: amount_at(book, at),
+    }
+}
