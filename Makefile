@@ -9,9 +9,10 @@ SOURCES := $(shell find crates -name '*.rt' -o -name '*.antt') crates.txt
 
 all: build/libfanzsoreb.a
 
-# `rt staticlib` proves every crate that the library rests on before it writes the archive
+# `rt staticlib` proves every crate that the library rests on, one after the other; `rt check` does so two at a time
 build/libfanzsoreb.a: $(SOURCES)
 	mkdir -p build
+	rt check $$(sed -n 's/^host: *//p' crates.txt)
 	rt staticlib host
 	cp target/staticlib/libhost.a $@
 
