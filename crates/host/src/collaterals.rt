@@ -1,87 +1,15 @@
 // Collateral on a book in lent bytes and the figures of a case (document 01, 'Collateral').
 ghost use mathlib.Core.Path.{_≡_};
-ghost use mathlib.Core.List.{[], _∷_};
 ghost use Rattle.rules.specs.Refusals.{notABook};
 ghost use Rattle.rules.specs.Collateral.{collateralAnswer, refusedCollateral};
 ghost use Rattle.coding.specs.Bytes.{onWords};
-ghost use Rattle.host.specs.Cases.{monthOf, caseWith, caseOf};
-use rules::Asked;
+ghost use Rattle.caseform.specs.Cases.{caseOf};
 use rules::Case;
 use rules::Collateral;
-use rules::Group;
-use rules::Margin;
-use rules::Month;
-use rules::Trading;
-use rules::Yek;
 
-fn trading_of(nonbusiness: u32, holiday: u32, defaults: u32) -> Trading
-    ensures { λ r. ⌜ r ≡ record { nonbusiness = nonbusiness; holiday = holiday; defaults = defaults } ⌝ }
+fn collateral_on(book: &[u8], case: Case) -> Collateral
+    ensures { λ r. ⌜ r ≡ onWords (now (book .entry)) (λ ws. collateralAnswer ws case) (refusedCollateral notABook) ⌝ }
 {
-    Trading {
-        nonbusiness,
-        holiday,
-        defaults,
-    }
-}
-
-fn month_of(aosmf: u64, aedm: i64) -> Month
-    ensures { λ r. ⌜ r ≡ monthOf aosmf aedm ⌝ }
-{
-    Month { aosmf, aedm }
-}
-
-fn group_of(responsible: u32, months: [Month; 3], used: u32, rk: u32, rt: u64) -> Group
-    ensures { λ r. ⌜ r ≡ record { responsible = responsible; months = months; used = used; rk = rk; rt = rt } ⌝ }
-{
-    Group {
-        responsible,
-        months,
-        used,
-        rk,
-        rt,
-    }
-}
-
-fn yek_of(yt: u64, score: u32, best: u32) -> Yek
-    ensures { λ r. ⌜ r ≡ record { yt = yt; score = score; best = best } ⌝ }
-{
-    Yek { yt, score, best }
-}
-
-fn months_of(
-    aosmf1: u64,
-    aedm1: i64,
-    aosmf2: u64,
-    aedm2: i64,
-    aosmf3: u64,
-    aedm3: i64,
-) -> [Month; 3]
-    ensures { λ r. ⌜ r ≡ monthOf aosmf1 aedm1 ∷ monthOf aosmf2 aedm2 ∷ monthOf aosmf3 aedm3 ∷ [] ⌝ }
-{
-    [
-        month_of(aosmf1, aedm1),
-        month_of(aosmf2, aedm2),
-        month_of(aosmf3, aedm3),
-    ]
-}
-
-fn collateral_on(
-    book: &[u8],
-    asked: Asked,
-    margin: Margin,
-    trading: Trading,
-    group: Group,
-    yek: Yek,
-) -> Collateral
-    ensures { λ r. ⌜ r ≡ onWords (now (book .entry)) (λ ws. collateralAnswer ws (caseWith asked margin trading group yek)) (refusedCollateral notABook) ⌝ }
-{
-    let case = Case {
-        asked,
-        margin,
-        trading,
-        group,
-        yek,
-    };
     let mut words = [0u32; coding::WORDS];
     let n = coding::decode(book, &mut words);
     collateral::collateral(&words[..n], case)
@@ -114,11 +42,27 @@ pub extern "C" fn fanzsoreb_collateral(
 ) -> Collateral
     ensures { λ r. ⌜ r ≡ onWords (now (book .entry)) (λ ws. collateralAnswer ws (caseOf party day licence capacity nonbusiness holiday defaults responsible aosmf1 aedm1 aosmf2 aedm2 aosmf3 aedm3 used rk rt yt score best)) (refusedCollateral notABook) ⌝ }
 {
-    let asked = Asked { party, day };
-    let margin = Margin { licence, capacity };
-    let trading = trading_of(nonbusiness, holiday, defaults);
-    let months = months_of(aosmf1, aedm1, aosmf2, aedm2, aosmf3, aedm3);
-    let group = group_of(responsible, months, used, rk, rt);
-    let yek = yek_of(yt, score, best);
-    collateral_on(book, asked, margin, trading, group, yek)
+    let case = caseform::case_of(
+        party,
+        day,
+        licence,
+        capacity,
+        nonbusiness,
+        holiday,
+        defaults,
+        responsible,
+        aosmf1,
+        aedm1,
+        aosmf2,
+        aedm2,
+        aosmf3,
+        aedm3,
+        used,
+        rk,
+        rt,
+        yt,
+        score,
+        best,
+    );
+    collateral_on(book, case)
 }

@@ -3,5 +3,5 @@ pub mod books;
 pub mod collaterals;
 pub mod days;
 pub mod figures;
+pub mod months;
 pub mod positions;
-pub mod tables;

@@ -1,8 +1,6 @@
 -- `host::collaterals::collateral_on` meets its contract. Assumes nothing.
 use mathlib.Core.Path.{_∙_}
 use borrow.Author.Needs.{needs}
-use Rattle.rules.specs.declared.Case.{Case}
-use Rattle.host.specs.Cases.{caseWith}
 use Rattle.coding.proofs.CodingLaws.{parts}
 use Rattle.coding.proofs.CallLaws.{on-collateral}
 use Rattle.host.proofs.collaterals.collateral_on.Statement.{statement}
@@ -26,9 +24,7 @@ collateral-requires c κs = search needs
 returns : tie.Need-returns
 returns c =
     let d = c .before .before .before in
-    let a = d .before .before .before .args in
-    let k : Case = caseWith (a .asked) (a .margin) (a .trading) (a .group) (a .yek) in
-    c .collateral .ensures ∙ on-collateral (d .decode .ensures) k
+    c .collateral .ensures ∙ on-collateral (d .decode .ensures) (d .before .before .before .args .case)
 
 pub collateral-on-spec : {M : Type 1} → statement M
 collateral-on-spec =
