@@ -21,7 +21,8 @@ use Rattle.rules.specs.declared.EntryRead.{EntryRead}
 use Rattle.rules.proofs.WordLaws.{Fits, IsLaid, laid-book, book-facts, book-laid, legal-bounds}
 use Rattle.rules.proofs.BookLaws.{entry-at-laid, restatused-laid, withStatus}
 use Rattle.words.proofs.BookCode.{Placed, book-entry}
-use Rattle.control.specs.Tables.{recordRead, cancelledWords}
+use Rattle.flags.specs.Tables.{recordRead}
+use Rattle.control.specs.Passes.{cancelledWords}
 use Rattle.control.proofs.ControlLaws.{cancelOne, to-cancel-is-sale, one-legal}
 
 -- the first entries as the pass leaves them, the others as they were

@@ -1,9 +1,3 @@
 pub mod ControlLaws
-pub mod TableLaws
-pub mod ScanLaws
-pub mod FlagLaws
-pub mod DetectLaws
-pub mod BitLaws
-pub mod PairLaws
 pub mod CancelLaws
 pub mod RunLaws

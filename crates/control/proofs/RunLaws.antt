@@ -23,9 +23,10 @@ use Rattle.rules.specs.Control.{Parties, detectedIn, isToCancel, cancelOf, isRe
 use Rattle.rules.specs.declared.Controlled.{Controlled}
 use Rattle.rules.proofs.WordLaws.{Fits, room-words, book-facts, book-laid}
 use Rattle.rules.proofs.BookLaws.{Stays, laid-stays, posted-book, mark-legal, length-snoc}
-use Rattle.control.specs.Tables.{flagged, everyone, checked, cancelledWords, passOf}
+use Rattle.flags.specs.Tables.{flagged, checked}
+use Rattle.control.specs.Passes.{everyone, cancelledWords, passOf}
 use Rattle.control.specs.declared.passes.Passed.{Passed}
-use Rattle.control.proofs.FlagLaws.{no-party}
+use Rattle.flags.proofs.FlagLaws.{no-party}
 use Rattle.control.proofs.ControlLaws.{cancel-length, cancel-legals, control-passes}
 
 -- everyone is asked in the first pass

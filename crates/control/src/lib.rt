@@ -1,14 +1,13 @@
 // Control of a day (document 01, 'Control of a day').
 ghost use mathlib.Core.Path.{_≡_};
 ghost use Rattle.rules.specs.Control.{controlCause, controlAnswer, controlWords};
+use flags::pairs;
+use flags::sums;
+use flags::sums::NUMBERS;
 use rules::Controlled;
-use sums::NUMBERS;
 use words::refusals;
 
-mod bits;
-mod pairs;
 mod passes;
-mod sums;
 
 fn control_cause(book: &[u32], day: u32) -> u32
     ensures { λ r. ⌜ r ≡ controlCause (now (book .entry)) day ⌝ }

@@ -8,9 +8,10 @@ ghost use Rattle.rules.specs.Entry.{keyOf, markType, lastParty, lastDay};
 ghost use Rattle.rules.specs.Words.{isBook, entries, countOf, roomIn};
 ghost use Rattle.rules.specs.Book.{posted};
 ghost use Rattle.rules.specs.Control.{isToCancel, detectedParties};
-ghost use Rattle.control.specs.Tables.{flagged, recordRead, cancelledWords, passOf};
-use crate::sums::Flags;
-use crate::sums::NUMBERS;
+ghost use Rattle.flags.specs.Tables.{flagged, recordRead};
+ghost use Rattle.control.specs.Passes.{cancelledWords, passOf};
+use flags::sums::Flags;
+use flags::sums::NUMBERS;
 use rules::EntryRead;
 
 // The parties detected in a pass and the entries cancelled.

@@ -1,0 +1,6 @@
+pub mod TableLaws
+pub mod ScanLaws
+pub mod FlagLaws
+pub mod DetectLaws
+pub mod BitLaws
+pub mod PairLaws
