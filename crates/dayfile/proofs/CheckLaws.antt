@@ -1,7 +1,7 @@
 -- Laws of the closed days in a table, of the causes of items, and of the lines they hold. Assumes nothing.
 use mathlib.Core.Path.{_≡_, refl, sym, _∙_, ap}
 use mathlib.Core.Logic.{inl, inr}
-use mathlib.Core.Bool.{Bool, true, false, cond, _||_, or-false, or-true, or-assoc}
+use mathlib.Core.Bool.{Bool, true, false, cond, _||_, or-false, or-true}
 use mathlib.Core.List.{List, [], _∷_, _++_}
 use Prim.Native.Nat.{ℕ, zero, suc, _+_, _-_, _≤_, _<_}
 use native.Mathlib.Omega.{arith}
@@ -16,8 +16,7 @@ use Rattle.rules.specs.Entry.{Record, key, standing, recordOf}
 use Rattle.rules.specs.Book.{isMarkOf}
 use Rattle.rules.specs.DayFile.{Item, line, emptyBlock, linesOf, headItem}
 use Rattle.fileform.specs.declared.Cursor.{Cursor}
-use Rattle.fileform.specs.declared.Line.{Line}
-use Rattle.fileform.specs.Walk.{isMore, headAt, lineAt, lineItem, itemsAt, pastStep, leftItems}
+use Rattle.fileform.specs.Walk.{isMore, headAt, itemsAt, pastStep, leftItems}
 use Rattle.dayfile.specs.Check.{causeBy, firstCause, linesAt, scanned}
 use Rattle.fileform.proofs.WalkLaws.{items-step, some}
 use Rattle.rules.specs.declared.FileRead.{FileRead}
@@ -34,29 +33,7 @@ module _ (cs : List Bool) (r : Record) {t : ℕ} (type : t ≡ key r .type) wher
         | inr s ↦ rw (← type, ← e, eq-eqb t 21 y, s, or-false (getD cs d false)) (getD-set-other cs day d true false (λ q. eqb-false day d s (sym q)))
       ]
 
--- one entry more in the table, one fewer to come
-pub table-step : (a m rest : Bool) {whole before after : Bool} → whole ≡ a || before → before ≡ m || rest → after ≡ a || m → whole ≡ after || rest
-table-step a m rest w b e = w ∙ rw (b, e, or-assoc a m rest)
-
--- what the next head or line holds, by what was read there
-module _ (bs : List ℕ) (cs : List Bool) (c : Cursor) where
-  module _ (z : c .left ≡ 0) (h : Cursor) (e : h ≡ headAt bs (c .at)) where
-    pub block-held : h .left ≡ 0 → itemsAt bs c ≡ emptyBlock (h .party) (h .day) ∷ []
-    unfolding itemsAt
-    block-held n = rw (eq-eqb (c .left) 0 z, ← e, n)
-
-    pub nothing-held : (h .left ≡ 0 → ⊥) → itemsAt bs c ≡ []
-    unfolding itemsAt
-    nothing-held n = rw (eq-eqb (c .left) 0 z, ← e) (no-item (h .left) n)
-      where
-        no-item : (k : ℕ) → (k ≡ 0 → ⊥) → headItem k (h .party) (h .day) [] ≡ []
-        no-item zero n = absurd (n refl)
-        no-item (suc k) n = refl
-
-  pub line-held : (c .left ≡ 0 → ⊥) → (l : Line) → l ≡ lineAt bs (c .at) → itemsAt bs c ≡ lineItem c l ∷ []
-  unfolding itemsAt
-  line-held n l e = rw (ne-eqb (c .left) 0 n, ← e)
-
+-- the cause of one item
 pub cause-of-one : (cs : List Bool) (i : Item) {is : List Item} {r : ℕ} → r ≡ causeBy cs i → is ≡ i ∷ [] → r ≡ firstCause cs is
 cause-of-one cs i q e = rw (e, else-none (causeBy cs i)) q
 

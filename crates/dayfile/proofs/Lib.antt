@@ -1,6 +1,6 @@
--- Laws of checking a file, of posting what it holds and of what it names; the folders hold the proof of a function each.
+-- Laws of checking a file and of posting what it holds; the folders hold the proof of a function each.
 pub mod CheckLaws
 pub mod AnswerLaws
 pub mod PostLaws
 pub mod FileLaws
-pub mod NameLaws
+pub mod RangeLaws

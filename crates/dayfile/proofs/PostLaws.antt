@@ -23,8 +23,8 @@ use Rattle.fileform.specs.declared.Cursor.{Cursor}
 use Rattle.fileform.specs.declared.Line.{Line}
 use Rattle.fileform.specs.Walk.{isMore, headAt, lineAt, lineItem, itemsAt, pastStep, leftItems}
 use Rattle.dayfile.specs.Check.{linesAt, storedFrom}
-use Rattle.fileform.proofs.WalkLaws.{items-step}
-use Rattle.dayfile.proofs.CheckLaws.{lines-append, lines-held, line-held}
+use Rattle.fileform.proofs.WalkLaws.{items-step, line-held}
+use Rattle.dayfile.proofs.CheckLaws.{lines-append, lines-held}
 
 -- one head or line
 module _ (bs : List ℕ) (c : Cursor) where
@@ -38,10 +38,10 @@ module _ (bs : List ℕ) (c : Cursor) where
 
   module _ (n : c .left ≡ 0 → ⊥) (l : Line) (e : l ≡ lineAt bs (c .at)) where
     pub one-line-stored : (ws : List ℕ) (place : ℕ) → storedFrom ws place (itemsAt bs c) ≡ storedFrom ws place (lineItem c l ∷ [])
-    one-line-stored ws place = ap (storedFrom ws place) (line-held bs [] c n l e)
+    one-line-stored ws place = ap (storedFrom ws place) (line-held bs c n l e)
 
     pub one-line-legal : all legal (linesOf (itemsAt bs c)) ≡ true → all legal (linesOf (lineItem c l ∷ [])) ≡ true
-    one-line-legal h = rw (line-held bs [] c n l e) at h
+    one-line-legal h = rw (line-held bs c n l e) at h
 
 -- items one after the other
 pub stored-append : (is js : List Item) (ws : List ℕ) (at : ℕ) → storedFrom ws at (is ++ js) ≡ storedFrom (storedFrom ws at is) (at + 5 * length (linesOf is)) js

@@ -1,3 +1,2 @@
--- What the code of this crate checks and names by itself, put together from the definitions of `rules`.
+-- What the code of this crate checks by itself, put together from the definitions of `rules`.
 pub mod Check
-pub mod Names

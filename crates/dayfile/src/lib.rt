@@ -8,7 +8,6 @@ use words::COUNT_WORD;
 use words::refusals::NOT_A_BOOK;
 
 mod check;
-pub mod names;
 mod post;
 
 // A file is refused by its length, kinds, spare or status bits, or ending.

@@ -1,7 +1,7 @@
 -- Laws of a walk of a file's bytes. Assumes nothing.
 use mathlib.Core.Path.{_≡_, refl, sym, _∙_}
 use mathlib.Core.Logic.{inl, inr}
-use mathlib.Core.Bool.{Bool, true, false, _&&_}
+use mathlib.Core.Bool.{Bool, true, false, _&&_, _||_, or-assoc}
 use mathlib.Core.List.{List, [], _∷_, _++_}
 use Prim.Native.Nat.{ℕ, zero, suc, _+_, _-_, _≤_, _<_}
 use native.Mathlib.Numerals.{add-one, add-two, add-three, add-four}
@@ -11,8 +11,9 @@ use lib.ListN.{length, getD, drop, length-drop}
 use lib.Seq.{drop-cons}
 use borrow.Author.Tests.{leb-true, leb-false, le-leb, lt-ltb, le-ltb, eq-eqb, ne-eqb}
 use Rattle.numbers.proofs.TestLaws.{below-or-above}
-use Rattle.rules.specs.DayFile.{Item, line, headItem, linesIn, isShaped, itemsFrom, wordsOf}
+use Rattle.rules.specs.DayFile.{Item, line, emptyBlock, headItem, linesIn, isShaped, itemsFrom, wordsOf}
 use Rattle.fileform.specs.declared.Cursor.{Cursor}
+use Rattle.fileform.specs.declared.Line.{Line}
 use Rattle.fileform.specs.Read.{stepAt, wordIn}
 use Rattle.coding.specs.Coding.{wordAt}
 use Rattle.fileform.specs.Walk.{isMore, headAt, pastStep, lineAt, lineItem, itemsAt, isStepOk, leftItems, leftShaped}
@@ -84,6 +85,25 @@ items-step bs c more = go (c .left) refl
         let f : suc n - 1 ≡ n = omega arith in
         rw (e, some n, f) (line-items bs (c .at) n (c .party) (c .day) (line-whole bs c more (λ z. absurd (omega arith))))
 
+-- what the next head or line holds, by what was read there
+module _ (bs : List ℕ) (c : Cursor) where
+  module _ (z : c .left ≡ 0) (h : Cursor) (e : h ≡ headAt bs (c .at)) where
+    pub block-held : h .left ≡ 0 → itemsAt bs c ≡ emptyBlock (h .party) (h .day) ∷ []
+    unfolding itemsAt
+    block-held n = rw (eq-eqb (c .left) 0 z, ← e, n)
+
+    pub nothing-held : (h .left ≡ 0 → ⊥) → itemsAt bs c ≡ []
+    unfolding itemsAt
+    nothing-held n = rw (eq-eqb (c .left) 0 z, ← e) (no-item (h .left) n)
+      where
+        no-item : (k : ℕ) → (k ≡ 0 → ⊥) → headItem k (h .party) (h .day) [] ≡ []
+        no-item zero n = absurd (n refl)
+        no-item (suc k) n = refl
+
+  pub line-held : (c .left ≡ 0 → ⊥) → (l : Line) → l ≡ lineAt bs (c .at) → itemsAt bs c ≡ lineItem c l ∷ []
+  unfolding itemsAt
+  line-held n l e = rw (ne-eqb (c .left) 0 n, ← e)
+
 -- where no head or line is whole, no item is left
 no-head : (bs : List ℕ) (at p d : ℕ) → length bs - at < 8 → itemsFrom 0 p d (wordsOf (drop at bs)) ≡ []
 unfolding itemsFrom
@@ -125,6 +145,10 @@ past-within bs c more = go (c .left) refl
 -- and comes nearer to the end
 pub walk-less : (bs : List ℕ) (c : Cursor) {more : Bool} {next : Cursor} → more ≡ isMore bs c → more ≡ true → next ≡ pastStep bs c → length bs - next .at < length bs - c .at
 walk-less bs c e y p = rw p (omega (arith, past-within bs c (sym e ∙ y)))
+
+-- a table of flags in a walk: one entry more in the table, one fewer to come
+pub table-step : (a m rest : Bool) {whole before after : Bool} → whole ≡ a || before → before ≡ m || rest → after ≡ a || m → whole ≡ after || rest
+table-step a m rest w b e = w ∙ rw (b, e, or-assoc a m rest)
 
 -- the shape of what is left, by one head or line
 pub shaped-step : (bs : List ℕ) (c : Cursor) → isMore bs c ≡ true → leftShaped bs c ≡ isStepOk bs c && leftShaped bs (pastStep bs c)

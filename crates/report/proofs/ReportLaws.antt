@@ -12,8 +12,8 @@ use Rattle.numbers.specs.Causes.{ifDone}
 use Rattle.numbers.proofs.CauseLaws.{done-else}
 use Rattle.rules.specs.DayFile.{fileCause, fileAnswer, fileWords, fileNames}
 use Rattle.rules.specs.declared.FileRead.{FileRead}
-use Rattle.dayfile.specs.Names.{namesParty}
-use Rattle.dayfile.proofs.NameLaws.{not-named}
+use Rattle.names.specs.Names.{namesParty}
+use Rattle.names.proofs.NameLaws.{not-named}
 use Rattle.dayfile.proofs.FileLaws.{file-stays}
 use Rattle.rules.specs.Words.{isBook, entries, coefficientOf, toleranceOf}
 use Rattle.rules.specs.Balance.{Volume, balanceOf, balanceAnswer, partyDayCause}

@@ -6,7 +6,7 @@ ghost use Prim.Native.Nat.{ℕ, _+_, _≤_, _<_};
 ghost use lib.ListN.{length, getD};
 ghost use Rattle.rules.specs.Words.{isBook};
 ghost use Rattle.rules.specs.Book.{openWords, defaultCoefficient, defaultTolerance};
-ghost use Rattle.dayfile.specs.Names.{namesParty};
+ghost use Rattle.names.specs.Names.{namesParty};
 ghost use Rattle.report.specs.Text.{Wrote};
 ghost use Rattle.report.specs.Asked.{Asked};
 ghost use Rattle.report.specs.Report.{header, refusal, lineText, lineOf, eachFrom, partyLines, allLines, reportInto, reportOn};
@@ -85,7 +85,7 @@ fn put_party_with(
     requires { ⌜ (1 ≤ party) × (party ≤ 999) ⌝ }
     ensures { λ r. ⌜ Wrote (now (out .entry)) at (partyLines (now (file .entry)) (now (book .entry)) party) r (now (out .exit)) ⌝ }
 {
-    dayfile::names::mark_days(file, party, days);
+    names::mark_days(file, party, days);
     put_days(book, party, days, out, at)
 }
 
@@ -127,7 +127,7 @@ fn put_table_with(book: &[u32], file: &[u8], parties: &mut [bool], out: &mut [u8
     requires { ⌜ isBook (now book) ≡ true ⌝ }
     ensures { λ r. ⌜ Wrote (now (out .entry)) 0 (header ++ allLines (now (file .entry)) (now (book .entry))) r (now (out .exit)) ⌝ }
 {
-    dayfile::names::mark_parties(file, parties);
+    names::mark_parties(file, parties);
     let next = text::put_bytes(out, 0, b"party day ahead delivery\n");
     put_parties(book, file, parties, out, next)
 }

@@ -1,13 +1,13 @@
--- `dayfile::names::mark_days` meets its contract. The loop's invariant: what the file names is what the table has, or what is left names. Assumes nothing.
+-- `names::mark_days` meets its contract. The loop's invariant: what the file names is what the table has, or what is left names. Assumes nothing.
 use mathlib.Core.Path.{refl, sym, _∙_}
 use Prim.Native.Nat.{_-_, zero-le}
 use lib.ListN.{length}
 use Rattle.rules.specs.DayFile.{items, itemNames, fileNames}
 use Rattle.fileform.proofs.WalkLaws.{walk-less}
-use Rattle.dayfile.proofs.NameLaws.{Marks, marks-step, marks-end}
+use Rattle.names.proofs.NameLaws.{Marks, marks-step, marks-end}
 use borrow.Author.Needs.{needs}
-use Rattle.dayfile.proofs.names.mark_days.Statement.{statement}
-use Rattle.dayfile.proofs.names.mark_days.Tie as tie
+use Rattle.names.proofs.mark_days.Statement.{statement}
+use Rattle.names.proofs.mark_days.Tie as tie
 
 abbrev Inv-loop : tie.InvT-loop
 Inv-loop file party days₀ c₀ days c = Marks (itemNames party) file days₀ days c

@@ -1,14 +1,14 @@
--- `dayfile::names::mark_parties` meets its contract. The loop's invariant: what the file names is what the table has, or what is left names. Assumes nothing.
+-- `names::mark_parties` meets its contract. The loop's invariant: what the file names is what the table has, or what is left names. Assumes nothing.
 use mathlib.Core.Path.{refl, sym, _∙_}
 use Prim.Native.Nat.{_-_, zero-le}
 use lib.ListN.{length}
 use Rattle.rules.specs.DayFile.{items}
-use Rattle.dayfile.specs.Names.{itemHas, namesParty}
+use Rattle.names.specs.Names.{itemHas, namesParty}
 use Rattle.fileform.proofs.WalkLaws.{walk-less}
-use Rattle.dayfile.proofs.NameLaws.{Marks, marks-step, marks-end}
+use Rattle.names.proofs.NameLaws.{Marks, marks-step, marks-end}
 use borrow.Author.Needs.{needs}
-use Rattle.dayfile.proofs.names.mark_parties.Statement.{statement}
-use Rattle.dayfile.proofs.names.mark_parties.Tie as tie
+use Rattle.names.proofs.mark_parties.Statement.{statement}
+use Rattle.names.proofs.mark_parties.Tie as tie
 
 abbrev Inv-loop : tie.InvT-loop
 Inv-loop file parties₀ c₀ parties c = Marks itemHas file parties₀ parties c

@@ -1,10 +1,10 @@
--- `dayfile::names::mark` meets its contract. Assumes nothing.
+-- `names::mark` meets its contract. Assumes nothing.
 use mathlib.Core.Path.{sym}
 use mathlib.Core.Bool.{true}
 use lib.Seq.{set-out}
 use borrow.Author.Needs.{needs}
-use Rattle.dayfile.proofs.names.mark.Statement.{statement}
-use Rattle.dayfile.proofs.names.mark.Tie as tie
+use Rattle.names.proofs.mark.Statement.{statement}
+use Rattle.names.proofs.mark.Tie as tie
 
 returns : tie.Need-returns
 returns c = sym (set-out _ _ true (c .if1 .taken))

@@ -6,7 +6,7 @@ ghost use lib.ListN.{length, getD, set};
 ghost use Rattle.numbers.specs.Tests.{any};
 ghost use Rattle.rules.specs.DayFile.{itemNames, fileNames};
 ghost use Rattle.fileform.specs.Walk.{isMore, itemsAt};
-ghost use Rattle.dayfile.specs.Names.{isNamed, itemHas, namesParty};
+ghost use Rattle.names.specs.Names.{isNamed, itemHas, namesParty};
 use fileform::Cursor;
 use fileform::walk;
 

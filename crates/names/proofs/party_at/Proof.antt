@@ -1,18 +1,15 @@
--- `dayfile::names::party_at` meets its contract. Assumes nothing.
-use Rattle.dayfile.proofs.NameLaws.{both-marked}
+-- `names::party_at` meets its contract. Assumes nothing.
 use mathlib.Core.Bool.{false, or-false}
-use mathlib.Core.List.{[]}
 use lib.Dec.{eqb}
 use lib.ListN.{getD}
 use Rattle.rules.specs.DayFile.{emptyBlock}
 use Rattle.fileform.specs.Walk.{lineItem}
-use Rattle.dayfile.specs.Names.{itemHas}
-use Rattle.fileform.proofs.WalkLaws.{head-whole, line-whole}
-use Rattle.dayfile.proofs.CheckLaws.{block-held, nothing-held, line-held}
-use Rattle.dayfile.proofs.NameLaws.{marked, of-none, of-one}
+use Rattle.names.specs.Names.{itemHas}
+use Rattle.fileform.proofs.WalkLaws.{head-whole, line-whole, block-held, nothing-held, line-held}
+use Rattle.names.proofs.NameLaws.{marked, both-marked, of-none, of-one}
 use borrow.Author.Needs.{needs}
-use Rattle.dayfile.proofs.names.party_at.Statement.{statement}
-use Rattle.dayfile.proofs.names.party_at.Tie as tie
+use Rattle.names.proofs.party_at.Statement.{statement}
+use Rattle.names.proofs.party_at.Tie as tie
 
 head-at-requires : tie.Need-head-at-requires
 head-at-requires c κs = head-whole _ _ (c .before .before .before .before .pre) (c .if1 .taken)
@@ -22,7 +19,7 @@ returns c =
     let h = c .before .before in
     let i = h .before in
     let a = i .before .before .before .before .args in
-    λ p _. of-none (itemHas p) (nothing-held (a .file .now) [] (a .c) (i .if1 .taken) (h .head-at .result) (h .head-at .ensures) (c .if2 .taken)) (getD (a .parties .now) p false)
+    λ p _. of-none (itemHas p) (nothing-held (a .file .now) (a .c) (i .if1 .taken) (h .head-at .result) (h .head-at .ensures) (c .if2 .taken)) (getD (a .parties .now) p false)
 
 mark-requires : tie.Need-mark-requires
 mark-requires c κs = search needs
@@ -39,7 +36,7 @@ returns-2 c =
     let i = h .before in
     let a = i .before .before .before .before .args in
     let r = h .head-at .result in
-    λ p l. rw (m .mark .ensures, of-one (itemHas p) (emptyBlock (r .party) (r .day)) (block-held (a .file .now) [] (a .c) (i .if1 .taken) r (h .head-at .ensures) (j .if2 .left))) (marked (a .parties .now) (r .party) p l)
+    λ p l. rw (m .mark .ensures, of-one (itemHas p) (emptyBlock (r .party) (r .day)) (block-held (a .file .now) (a .c) (i .if1 .taken) r (h .head-at .ensures) (j .if2 .left))) (marked (a .parties .now) (r .party) p l)
 
 line-at-requires : tie.Need-line-at-requires
 line-at-requires c κs = line-whole _ _ (c .before .before .before .before .pre) (c .if1 .left)
@@ -57,7 +54,7 @@ returns-3 c =
     let t = m .before .before in
     let i = t .before in
     let a = i .before .before .before .before .args in
-    λ p l. rw (m .mark2 .ensures, of-one (itemHas p) (lineItem (a .c) (t .line-at .result)) (line-held (a .file .now) [] (a .c) (i .if1 .left) (t .line-at .result) (t .line-at .ensures)), c .if3 .taken, or-false (eqb (a .c .party) p)) (marked (a .parties .now) (a .c .party) p l)
+    λ p l. rw (m .mark2 .ensures, of-one (itemHas p) (lineItem (a .c) (t .line-at .result)) (line-held (a .file .now) (a .c) (i .if1 .left) (t .line-at .result) (t .line-at .ensures)), c .if3 .taken, or-false (eqb (a .c .party) p)) (marked (a .parties .now) (a .c .party) p l)
 
 mark-requires-3 : tie.Need-mark-requires-3
 mark-requires-3 c κs = search needs
@@ -74,7 +71,7 @@ returns-4 c =
     let t = m .before .before in
     let i = t .before in
     let a = i .before .before .before .before .args in
-    λ p l. rw (n .mark3 .ensures, m .mark2 .ensures, of-one (itemHas p) (lineItem (a .c) (t .line-at .result)) (line-held (a .file .now) [] (a .c) (i .if1 .left) (t .line-at .result) (t .line-at .ensures))) (both-marked (a .parties .now) (a .c .party) (t .line-at .result .counterparty) p (k .if3 .left) l)
+    λ p l. rw (n .mark3 .ensures, m .mark2 .ensures, of-one (itemHas p) (lineItem (a .c) (t .line-at .result)) (line-held (a .file .now) (a .c) (i .if1 .left) (t .line-at .result) (t .line-at .ensures))) (both-marked (a .parties .now) (a .c .party) (t .line-at .result .counterparty) p (k .if3 .left) l)
 
 pub party-at-spec : {M : Type 1} → statement M
 party-at-spec =
