@@ -1,6 +1,4 @@
 -- Laws that the proofs of this crate share; the folders hold the proof of a function each.
 pub mod UsedMonths
 pub mod ItemLaws
-pub mod DebtLaws
-pub mod WindowLaws
 pub mod CaseLaws

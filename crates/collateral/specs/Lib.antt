@@ -1,3 +1,1 @@
 pub mod Months
-pub mod Window
-pub mod Walk

@@ -5,7 +5,6 @@ ghost use Prim.Native.Nat.{_≤_};
 ghost use lib.Dec.{eqb, ltb};
 ghost use Rattle.rules.specs.Words.{isBook, entries};
 ghost use Rattle.rules.specs.Collateral.{generationMargin, margin, tradingDays, trading, imbalance, risk, yek, figuresOk, collateralOf};
-use crate::debts;
 use crate::months;
 use rules::Case;
 use rules::Collateral;

@@ -8,11 +8,9 @@ use words::refusals::BAD_FIGURE;
 use words::refusals::BAD_PARTY;
 use words::refusals::NOT_A_BOOK;
 
-mod debts;
 mod items;
 mod months;
 mod ranges;
-mod window;
 
 // The lowest cause that holds, or 0: no book, party, day, another figure.
 fn cause_of(book: &[u32], case: Case) -> u32

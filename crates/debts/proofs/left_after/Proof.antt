@@ -1,9 +1,9 @@
--- `collateral::debts::left_after` meets its contract. Assumes nothing.
+-- `debts::left_after` meets its contract. Assumes nothing.
 use native.Mathlib.Nat.{sub-zero}
 use borrow.Author.Tests.{not-true, not-false}
 use borrow.Author.Needs.{needs}
-use Rattle.collateral.proofs.debts.left_after.Statement.{statement}
-use Rattle.collateral.proofs.debts.left_after.Tie as tie
+use Rattle.debts.proofs.left_after.Statement.{statement}
+use Rattle.debts.proofs.left_after.Tie as tie
 
 returns : tie.Need-returns
 returns c = rw (not-true (c .before .args .chosen) (c .if1 .taken), sub-zero (c .before .args .left))

@@ -1,9 +1,9 @@
--- `collateral::debts::day_before` meets its contract. Assumes nothing.
+-- `debts::day_before` meets its contract. Assumes nothing.
 use native.Mathlib.Omega.{arith}
-use Rattle.collateral.proofs.DebtLaws.{owed-limit}
+use Rattle.debts.proofs.DebtLaws.{owed-limit}
 use borrow.Author.Needs.{needs}
-use Rattle.collateral.proofs.debts.day_before.Statement.{statement}
-use Rattle.collateral.proofs.debts.day_before.Tie as tie
+use Rattle.debts.proofs.day_before.Statement.{statement}
+use Rattle.debts.proofs.day_before.Tie as tie
 
 chooses-requires : tie.Need-chooses-requires
 chooses-requires c κs = search needs

@@ -1,14 +1,14 @@
--- `collateral::debts::debts_of` meets its contract. Assumes nothing.
+-- `debts::debts_of` meets its contract. Assumes nothing.
 use mathlib.Core.Path.{_≡_}
 use Prim.Native.Nat.{_+_, _-_, _*_, _≤_}
 use native.Mathlib.Nat.{sub-zero}
 use native.Mathlib.Omega.{arith}
 use Rattle.rules.specs.Collateral.{debts}
-use Rattle.collateral.specs.Window.{mostInCell, moneyIn}
-use Rattle.collateral.proofs.DebtLaws.{walk-more, walk-end}
+use Rattle.debts.specs.Window.{mostInCell, moneyIn}
+use Rattle.debts.proofs.DebtLaws.{walk-more, walk-end}
 use borrow.Author.Needs.{needs}
-use Rattle.collateral.proofs.debts.debts_of.Statement.{statement}
-use Rattle.collateral.proofs.debts.debts_of.Tie as tie
+use Rattle.debts.proofs.debts_of.Statement.{statement}
+use Rattle.debts.proofs.debts_of.Tie as tie
 
 abbrev Inv-loop : tie.InvT-loop
 Inv-loop cells day k days walk₀ i₀ walk i =

@@ -21,8 +21,8 @@ use Rattle.rules.specs.Collateral.{Money, debtOf, debts, moneyOf}
 use Rattle.rules.proofs.SumOrder.{forTests, CountsFor, counts-for}
 use Rattle.rules.proofs.WordLaws.{entry-facts, legal-bounds, within-true}
 use Rattle.words.proofs.BookCode.{read-from, book-entry}
-use Rattle.collateral.specs.Window.{AtMost, cellCount, windowDays, inWindow, cellOf, addedAt, filled, windowOf, moneyIn}
-use Rattle.collateral.specs.Walk.{chosen, leftAfter, owed}
+use Rattle.debts.specs.Window.{AtMost, cellCount, windowDays, inWindow, cellOf, addedAt, filled, windowOf, moneyIn}
+use Rattle.debts.specs.Walk.{chosen, leftAfter, owed}
 
 -- an entry in the window, as facts
 pub record Inside (p g : ℕ) (l : Label) : Type 0 where

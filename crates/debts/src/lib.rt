@@ -4,12 +4,13 @@ ghost use mathlib.Core.Bool.{true, cond};
 ghost use Prim.Native.Nat.{_+_, _-_, _*_, _≤_, min};
 ghost use Rattle.rules.specs.Words.{isBook, entries};
 ghost use Rattle.rules.specs.Collateral.{debts, moneyOf};
-ghost use Rattle.collateral.specs.Window.{windowDays, mostInCell, AtMost, moneyIn};
-ghost use Rattle.collateral.specs.Walk.{chosen, leftAfter, owed};
-use crate::window;
+ghost use Rattle.debts.specs.Window.{windowDays, mostInCell, AtMost, moneyIn};
+ghost use Rattle.debts.specs.Walk.{chosen, leftAfter, owed};
+
+mod window;
 
 // A market with days left to choose takes a day with money.
-pub fn chooses(left: u32, bought: u64, sold: u64) -> bool
+fn chooses(left: u32, bought: u64, sold: u64) -> bool
     requires { ⌜ (bought ≤ mostInCell) × (sold ≤ mostInCell) ⌝ }
     ensures { λ r. ⌜ r ≡ chosen left bought sold ⌝ }
 {
@@ -17,7 +18,7 @@ pub fn chooses(left: u32, bought: u64, sold: u64) -> bool
 }
 
 // The days that a market has left after a day.
-pub fn left_after(left: u32, chosen: bool) -> u32
+fn left_after(left: u32, chosen: bool) -> u32
     ensures { λ r. ⌜ r ≡ left - cond chosen 1 0 ⌝ }
 {
     if !chosen {
@@ -33,7 +34,7 @@ fn counted(chosen: bool, amount: u64) -> u64
 }
 
 // Purchases − sales over the markets that chose the day, or 0 if negative.
-pub fn owed_on(
+fn owed_on(
     ahead: bool,
     intraday: bool,
     bought: u64,
@@ -54,20 +55,14 @@ pub fn owed_on(
 }
 
 // The debts of the days passed, and the days that each market still chooses.
-pub struct Walk {
-    pub debt: u64,
-    pub ahead: u32,
-    pub intraday: u32,
+struct Walk {
+    debt: u64,
+    ahead: u32,
+    intraday: u32,
 }
 
 // One day further back.
-pub fn day_before(
-    walk: Walk,
-    bought: u64,
-    sold: u64,
-    bought_intraday: u64,
-    sold_intraday: u64,
-) -> Walk
+fn day_before(walk: Walk, bought: u64, sold: u64, bought_intraday: u64, sold_intraday: u64) -> Walk
     requires { ⌜ (walk .debt ≤ 30 * (2 * mostInCell)) × (bought ≤ mostInCell) × (sold ≤ mostInCell) × («bought_intraday» ≤ mostInCell) × («sold_intraday» ≤ mostInCell) ⌝ }
     ensures { λ r. ⌜ (r .debt ≡ walk .debt + owed (chosen (walk .ahead) bought sold) (chosen (walk .intraday) «bought_intraday» «sold_intraday») bought sold «bought_intraday» «sold_intraday») × (r .ahead ≡ leftAfter (walk .ahead) bought sold) × (r .intraday ≡ leftAfter (walk .intraday) «bought_intraday» «sold_intraday») ⌝ }
 {
@@ -90,14 +85,14 @@ pub fn day_before(
 }
 
 // The window ends at day 0.
-pub fn window_days(day: u32) -> u32
+fn window_days(day: u32) -> u32
     ensures { λ r. ⌜ r ≡ min windowDays day ⌝ }
 {
     if day < 30 { day } else { 30 }
 }
 
 // D: each market chooses its latest k days with money, and a day's debt is over the markets that chose it.
-pub fn debts_of(cells: &[u64; 120], day: u32, k: u32) -> u64
+fn debts_of(cells: &[u64; 120], day: u32, k: u32) -> u64
     requires { ⌜ AtMost mostInCell (now cells) ⌝ }
     ensures { λ r. ⌜ r ≡ debts (moneyIn (now (cells .entry)) day) 30 day k k ⌝ }
 {

@@ -7,8 +7,8 @@ use native.Mathlib.Omega.{arith}
 use lib.ListN.{getD}
 use Rattle.numbers.proofs.SumLaws.{cond-below}
 use Rattle.rules.specs.Collateral.{Money, debtOf, debts}
-use Rattle.collateral.specs.Window.{mostInCell, moneyIn, AtMost}
-use Rattle.collateral.specs.Walk.{chosen, leftAfter, owed}
+use Rattle.debts.specs.Window.{mostInCell, moneyIn, AtMost}
+use Rattle.debts.specs.Walk.{chosen, leftAfter, owed}
 
 pub owed-limit : (a i : Bool) (b s c t : ℕ) → b ≤ mostInCell → c ≤ mostInCell → owed a i b s c t ≤ 2 * mostInCell
 owed-limit a i b s c t hb hc = omega (arith, cond-below a b, cond-below i c)

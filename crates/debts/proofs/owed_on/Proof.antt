@@ -1,9 +1,9 @@
--- `collateral::debts::owed_on` meets its contract. Assumes nothing.
+-- `debts::owed_on` meets its contract. Assumes nothing.
 use native.Mathlib.Omega.{arith}
 use Rattle.numbers.proofs.SumLaws.{cond-below}
 use borrow.Author.Needs.{needs}
-use Rattle.collateral.proofs.debts.owed_on.Statement.{statement}
-use Rattle.collateral.proofs.debts.owed_on.Tie as tie
+use Rattle.debts.proofs.owed_on.Statement.{statement}
+use Rattle.debts.proofs.owed_on.Tie as tie
 
 counted-requires : tie.Need-counted-requires
 counted-requires c κs = search needs

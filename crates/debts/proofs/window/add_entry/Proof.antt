@@ -1,10 +1,10 @@
--- `collateral::window::add_entry` meets its contract. Assumes nothing.
+-- `debts::window::add_entry` meets its contract. Assumes nothing.
 use native.Mathlib.Omega.{arith}
 use borrow.Author.Tests.{lt-ltb, le-ltb}
-use Rattle.collateral.specs.Window.{addedAt}
+use Rattle.debts.specs.Window.{addedAt}
 use borrow.Author.Needs.{needs}
-use Rattle.collateral.proofs.window.add_entry.Statement.{statement}
-use Rattle.collateral.proofs.window.add_entry.Tie as tie
+use Rattle.debts.proofs.window.add_entry.Statement.{statement}
+use Rattle.debts.proofs.window.add_entry.Tie as tie
 
 cell-at-requires : tie.Need-cell-at-requires
 cell-at-requires c κs = search needs

@@ -1,12 +1,12 @@
--- `collateral::debts::debt_of` meets its contract. Assumes nothing.
+-- `debts::debt_of` meets its contract. Assumes nothing.
 use mathlib.Core.Path.{_∙_, ap}
 use Rattle.rules.specs.Words.{entries}
 use Rattle.rules.specs.Collateral.{debts}
-use Rattle.collateral.specs.Window.{moneyIn}
-use Rattle.collateral.proofs.WindowLaws.{window-debts}
+use Rattle.debts.specs.Window.{moneyIn}
+use Rattle.debts.proofs.WindowLaws.{window-debts}
 use borrow.Author.Needs.{needs}
-use Rattle.collateral.proofs.debts.debt_of.Statement.{statement}
-use Rattle.collateral.proofs.debts.debt_of.Tie as tie
+use Rattle.debts.proofs.debt_of.Statement.{statement}
+use Rattle.debts.proofs.debt_of.Tie as tie
 
 window-of-requires : tie.Need-window-of-requires
 window-of-requires c κs = search needs

@@ -1,4 +1,4 @@
--- `collateral::window::window_of` meets its contract. The loop's invariant: the table of all entries is that of the entries still to come, added to the cells. Assumes nothing.
+-- `debts::window::window_of` meets its contract. The loop's invariant: the table of all entries is that of the entries still to come, added to the cells. Assumes nothing.
 use mathlib.Core.Path.{_≡_, sym, _∙_}
 use Prim.Native.Nat.{_+_, _-_, _*_, _≤_, _<_}
 use native.Mathlib.Omega.{arith}
@@ -7,11 +7,11 @@ use Rattle.rules.specs.Entry.{mostMoney}
 use Rattle.rules.specs.Words.{countOf, entries, readEntries}
 use Rattle.rules.proofs.WordLaws.{book-facts}
 use Rattle.words.proofs.BookCode.{book-entry}
-use Rattle.collateral.specs.Window.{AtMost, filled, windowOf}
-use Rattle.collateral.proofs.WindowLaws.{window-start, window-more, window-end, money-at, none-at-most, added-at-most}
+use Rattle.debts.specs.Window.{AtMost, filled, windowOf}
+use Rattle.debts.proofs.WindowLaws.{window-start, window-more, window-end, money-at, none-at-most, added-at-most}
 use borrow.Author.Needs.{needs}
-use Rattle.collateral.proofs.window.window_of.Statement.{statement}
-use Rattle.collateral.proofs.window.window_of.Tie as tie
+use Rattle.debts.proofs.window.window_of.Statement.{statement}
+use Rattle.debts.proofs.window.window_of.Tie as tie
 
 abbrev Inv-loop : tie.InvT-loop
 Inv-loop book party day cells₀ count i₀ cells i =

@@ -1,14 +1,14 @@
--- `collateral::window::cell_at` meets its contract. Assumes nothing.
+-- `debts::window::cell_at` meets its contract. Assumes nothing.
 use mathlib.Core.Path.{sym, _∙_}
 use Prim.Native.Nat.{ℕ, _+_, _≤_, _<_}
 use native.Mathlib.Omega.{arith}
 use lib.ListN.{drop}
 use Rattle.rules.specs.Entry.{Label}
 use Rattle.rules.specs.Words.{decode}
-use Rattle.collateral.proofs.WindowLaws.{Read, cell-other, figures-inside, cell-is, cell-none, day-bits}
+use Rattle.debts.proofs.WindowLaws.{Read, cell-other, figures-inside, cell-is, cell-none, day-bits}
 use borrow.Author.Needs.{needs}
-use Rattle.collateral.proofs.window.cell_at.Statement.{statement}
-use Rattle.collateral.proofs.window.cell_at.Tie as tie
+use Rattle.debts.proofs.window.cell_at.Statement.{statement}
+use Rattle.debts.proofs.window.cell_at.Tie as tie
 
 -- the entry at the place
 abbrev entry : tie.Start → Label

@@ -5,7 +5,7 @@ ghost use Prim.Native.Nat.{_+_, _≤_};
 ghost use lib.ListN.{length, drop};
 ghost use Rattle.rules.specs.Entry.{mostMoney};
 ghost use Rattle.rules.specs.Words.{decode, isBook, entries};
-ghost use Rattle.collateral.specs.Window.{mostInCell, AtMost, cellOf, addedAt, windowOf};
+ghost use Rattle.debts.specs.Window.{mostInCell, AtMost, cellOf, addedAt, windowOf};
 
 const CELLS: usize = 120;
 
