@@ -1,3 +1,2 @@
--- Laws of text; the folders hold the proof of a function each.
-pub mod TextLaws
+-- Laws of the report; the folders hold the proof of a function each.
 pub mod ReportLaws

@@ -7,6 +7,7 @@ use native.Mathlib.Numerals.{add-one}
 use native.Mathlib.Omega.{arith}
 use lib.IntN.{ℤ}
 use lib.ListN.{getD}
+use lib.Seq.{length-take-le}
 use borrow.Author.Tests.{le-leb}
 use Rattle.numbers.specs.Causes.{ifDone}
 use Rattle.numbers.proofs.CauseLaws.{done-else}
@@ -20,6 +21,9 @@ use Rattle.rules.specs.Balance.{Volume, balanceOf, balanceAnswer, partyDayCause
 use Rattle.rules.specs.declared.TallyAnswer.{TallyAnswer}
 use Rattle.position.specs.Scan.{scanned}
 use Rattle.position.proofs.AnswerLaws.{no-cause, balance-done}
+use Rattle.io.specs.Counts.{Counts}
+use Rattle.text.specs.Text.{Wrote}
+use Rattle.text.proofs.TextLaws.{wrote-within}
 use Rattle.report.specs.Asked.{Asked}
 use Rattle.report.specs.Report.{eachFrom, partyLines, allLines, lineOf, header, refusal, reportInto}
 
@@ -77,3 +81,7 @@ asked-cause {ws} {p} {d} a = no-cause ws p d (a .is-book) (rw (le-leb 1 p (a .pa
 pub asked-balance : {ws : List ℕ} {p d : ℕ} → Asked ws p d → (v : Volume) {s : TallyAnswer} {R TM : ℕ} {z : ℤ} → s ≡ scanned p d (entries ws) → R ≡ coefficientOf ws → TM ≡ toleranceOf ws →
     z ≡ balanceOf v R TM (s .tally) (s .bought) → z ≡ balanceAnswer v ws p d .balance
 asked-balance {ws} {p} {d} a v f g h e = ap (λ b. b .balance) (balance-done ws p d (asked-cause a) v refl f g h e)
+
+-- the place after a text counts bytes of the slice
+pub wrote-counts : {out : List ℕ} {at : ℕ} {s : List ℕ} {next : ℕ} {left : List ℕ} → Wrote out at s next left → Counts next left
+wrote-counts {next = next} {left} w = (wrote-within w, sym (length-take-le next left (wrote-within w)))

@@ -1,4 +1,3 @@
 -- What the program `balance` prints (01, 'Day file').
-pub mod Text
 pub mod Report
 pub mod Asked

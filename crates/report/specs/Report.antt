@@ -8,7 +8,7 @@ use Rattle.numbers.specs.Causes.{ifDone}
 use Rattle.rules.specs.Book.{openWords, defaultCoefficient, defaultTolerance}
 use Rattle.rules.specs.Balance.{balanceAnswer, dayAhead, delivery}
 use Rattle.rules.specs.DayFile.{fileCause, fileWords, fileNames}
-use Rattle.report.specs.Text.{decimal, signed}
+use Rattle.text.specs.Text.{decimal, signed}
 
 -- party day ahead delivery
 abbrev pub header : List ℕ

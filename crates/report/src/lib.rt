@@ -7,13 +7,12 @@ ghost use lib.ListN.{length, getD};
 ghost use Rattle.rules.specs.Words.{isBook};
 ghost use Rattle.rules.specs.Book.{openWords, defaultCoefficient, defaultTolerance};
 ghost use Rattle.names.specs.Names.{namesParty};
-ghost use Rattle.report.specs.Text.{Wrote};
+ghost use Rattle.text.specs.Text.{Wrote};
 ghost use Rattle.report.specs.Asked.{Asked};
 ghost use Rattle.report.specs.Report.{header, refusal, lineText, lineOf, eachFrom, partyLines, allLines, reportInto, reportOn};
 use position::parts;
 
 pub mod input;
-mod text;
 
 fn put_line(out: &mut [u8], at: usize, party: u32, day: u32, ahead: i64, due: i64) -> usize
     requires { ⌜ at ≤ length (now out) ⌝ }

@@ -5,7 +5,7 @@ use Prim.Native.Nat.{_≤_, _-_, zero-le}
 use native.Mathlib.Omega.{arith}
 use lib.ListN.{getD}
 use Rattle.report.specs.Report.{eachFrom, lineOf}
-use Rattle.report.proofs.TextLaws.{Left, left-start, left-step, left-end}
+use Rattle.text.proofs.TextLaws.{Left, left-start, left-step, left-end}
 use Rattle.report.proofs.ReportLaws.{each-step, each-end}
 use borrow.Author.Needs.{needs}
 use Rattle.report.proofs.put_days.Statement.{statement}

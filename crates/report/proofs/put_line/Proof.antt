@@ -2,7 +2,7 @@
 use mir.Syntax.{w64}
 use mir.ValLaws.{toZ-ofZ}
 use Rattle.report.specs.Report.{lineText}
-use Rattle.report.proofs.TextLaws.{wrote-then}
+use Rattle.text.proofs.TextLaws.{wrote-then}
 use borrow.Author.Needs.{needs}
 use Rattle.report.proofs.put_line.Statement.{statement}
 use Rattle.report.proofs.put_line.Tie as tie

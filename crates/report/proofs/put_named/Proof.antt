@@ -1,6 +1,6 @@
 -- `report::put_named` meets its contract. Assumes nothing.
 use borrow.Author.Tests.{not-true, not-false}
-use Rattle.report.proofs.TextLaws.{wrote-nothing}
+use Rattle.text.proofs.TextLaws.{wrote-nothing}
 use borrow.Author.Needs.{needs}
 use Rattle.report.proofs.put_named.Statement.{statement}
 use Rattle.report.proofs.put_named.Tie as tie

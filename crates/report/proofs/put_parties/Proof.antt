@@ -2,7 +2,7 @@
 use Prim.Native.Nat.{_≤_, _-_}
 use native.Mathlib.Omega.{arith}
 use Rattle.report.specs.Report.{eachFrom, partyLines, allLines}
-use Rattle.report.proofs.TextLaws.{Left, left-start, left-step, left-end}
+use Rattle.text.proofs.TextLaws.{Left, left-start, left-step, left-end}
 use Rattle.report.proofs.ReportLaws.{each-step, each-end}
 use borrow.Author.Needs.{needs}
 use Rattle.report.proofs.put_parties.Statement.{statement}

@@ -3,7 +3,7 @@ use mathlib.Core.Path.{sym, _∙_}
 use mathlib.Core.Bool.{false}
 use lib.ListN.{length-replicate, getD-replicate}
 use borrow.Author.Tests.{not-true}
-use Rattle.report.proofs.TextLaws.{wrote-nothing}
+use Rattle.text.proofs.TextLaws.{wrote-nothing}
 use Rattle.report.proofs.ReportLaws.{no-lines}
 use borrow.Author.Needs.{needs}
 use Rattle.report.proofs.put_party.Statement.{statement}

@@ -1,6 +1,6 @@
 -- `report::put_table_with` meets its contract. Assumes nothing.
 use mathlib.Core.Path.{_∙_}
-use Rattle.report.proofs.TextLaws.{wrote-within, wrote-then}
+use Rattle.text.proofs.TextLaws.{wrote-within, wrote-then}
 use borrow.Author.Needs.{needs}
 use Rattle.report.proofs.put_table_with.Statement.{statement}
 use Rattle.report.proofs.put_table_with.Tie as tie

@@ -1,6 +1,6 @@
 -- `report::refused` meets its contract. Assumes nothing.
 use Rattle.report.specs.Report.{refusal}
-use Rattle.report.proofs.TextLaws.{wrote-then}
+use Rattle.text.proofs.TextLaws.{wrote-then}
 use borrow.Author.Needs.{needs}
 use Rattle.report.proofs.refused.Statement.{statement}
 use Rattle.report.proofs.refused.Tie as tie

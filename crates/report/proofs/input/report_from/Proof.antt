@@ -1,7 +1,7 @@
 -- `report::input::report_from` meets its contract. Assumes nothing.
 use mathlib.Core.Path.{sym}
 use lib.Seq.{length-take-le}
-use Rattle.report.proofs.TextLaws.{wrote-counts}
+use Rattle.report.proofs.ReportLaws.{wrote-counts}
 use borrow.Author.Needs.{needs}
 use Rattle.report.proofs.input.report_from.Statement.{statement}
 use Rattle.report.proofs.input.report_from.Tie as tie

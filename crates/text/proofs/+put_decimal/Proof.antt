@@ -1,20 +1,20 @@
--- `report::text::put_decimal` meets its contract. The measure is the number. Assumes nothing.
+-- `text::put_decimal` meets its contract. The measure is the number. Assumes nothing.
 use mathlib.Core.Path.{_≡_, sym}
 use mathlib.Core.List.{[], _∷_}
 use native.Mathlib.Omega.{arith}
-use Rattle.report.specs.Text.{Wrote}
-use Rattle.report.proofs.TextLaws.{wrote-within, wrote-then, small-decimal, decimal-step}
+use Rattle.text.specs.Text.{Wrote}
+use Rattle.text.proofs.TextLaws.{wrote-within, wrote-then, small-decimal, decimal-step}
 use borrow.Author.Needs.{needs}
 use Prim.Native.Nat.{ℕ, _<_}
 use borrow.Fn.Kinds.{In}
 use borrow.Fn.PlainCycle.{Measures, is, falls, and}
-use Rattle.report.proofs.text.put_decimal.Reads as put-decimal
-use Rattle.report.proofs.text.put_decimal.Kinds as put-decimal-kinds
-use Rattle.report.proofs.text.+put_decimal.Lts-put_decimal as put-decimal-lts
-use Rattle.report.proofs.text.digit.Reads as digit-reads
-use Rattle.report.proofs.text.put.Reads as put-reads
-use Rattle.report.proofs.text.+put_decimal.{statement}
-use Rattle.report.proofs.text.+put_decimal.Tie.{close}
+use Rattle.text.proofs.put_decimal.Reads as put-decimal
+use Rattle.text.proofs.put_decimal.Kinds as put-decimal-kinds
+use Rattle.text.proofs.+put_decimal.Lts-put_decimal as put-decimal-lts
+use Rattle.text.proofs.digit.Reads as digit-reads
+use Rattle.text.proofs.put.Reads as put-reads
+use Rattle.text.proofs.+put_decimal.{statement}
+use Rattle.text.proofs.+put_decimal.Tie.{close}
 
 abbrev μ-put-decimal : Measures 1 put-decimal-kinds.ps ℕ
 μ-put-decimal κs a = a .1 .1 .0

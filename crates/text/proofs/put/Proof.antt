@@ -1,8 +1,8 @@
--- `report::text::put` meets its contract. Assumes nothing.
-use Rattle.report.proofs.TextLaws.{wrote-none, wrote-one}
+-- `text::put` meets its contract. Assumes nothing.
+use Rattle.text.proofs.TextLaws.{wrote-none, wrote-one}
 use borrow.Author.Needs.{needs}
-use Rattle.report.proofs.text.put.Statement.{statement}
-use Rattle.report.proofs.text.put.Tie as tie
+use Rattle.text.proofs.put.Statement.{statement}
+use Rattle.text.proofs.put.Tie as tie
 
 returns : tie.Need-returns
 returns c = wrote-none _ _ (c .before .args .byte) (c .before .pre) (c .if1 .taken)

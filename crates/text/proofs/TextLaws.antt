@@ -9,12 +9,11 @@ use native.Mathlib.Numerals.{add-one}
 use native.Mathlib.Omega.{arith}
 use lib.IntN.{ℤ, pos, negsuc, natAbs}
 use lib.ListN.{length, getD, drop, set, length-append, length-set}
-use lib.Seq.{set-out, drop-cons, length-take-le}
-use Rattle.io.specs.Counts.{Counts}
+use lib.Seq.{set-out, drop-cons}
 use borrow.Author.Tests.{ltb-true, lt-ltb, le-ltb}
 use Rattle.numbers.specs.Signed.{isNegative}
 use Rattle.numbers.proofs.TestLaws.{below-or-above}
-use Rattle.report.specs.Text.{digits, decimal, signed, over, Wrote}
+use Rattle.text.specs.Text.{digits, decimal, signed, over, Wrote}
 
 -- text after text
 pub over-append : (s t out : List ℕ) (at : ℕ) → over out at (s ++ t) ≡ over (over out at s) (at + length s) t
@@ -144,7 +143,3 @@ signed-other (negsuc n) e = absurd (true≢false e)
 pub wrote-nothing : (out : List ℕ) (at : ℕ) → at ≤ length out → Wrote out at [] at out
 unfolding over
 wrote-nothing out at h = record { place = omega arith; bytes = refl }
-
--- the place after a text counts bytes of the slice
-pub wrote-counts : {out : List ℕ} {at : ℕ} {s : List ℕ} {next : ℕ} {left : List ℕ} → Wrote out at s next left → Counts next left
-wrote-counts {next = next} {left} w = (wrote-within w, sym (length-take-le next left (wrote-within w)))

@@ -1,10 +1,10 @@
--- `report::text::put_balance` meets its contract. Assumes nothing.
+-- `text::put_balance` meets its contract. Assumes nothing.
 use mir.Syntax.{w64}
 use mir.ValLaws.{toZ-ofZ}
-use Rattle.report.proofs.TextLaws.{wrote-then}
+use Rattle.text.proofs.TextLaws.{wrote-then}
 use borrow.Author.Needs.{needs}
-use Rattle.report.proofs.text.put_balance.Statement.{statement}
-use Rattle.report.proofs.text.put_balance.Tie as tie
+use Rattle.text.proofs.put_balance.Statement.{statement}
+use Rattle.text.proofs.put_balance.Tie as tie
 
 put-signed-requires : tie.Need-put-signed-requires
 put-signed-requires c κs = search needs

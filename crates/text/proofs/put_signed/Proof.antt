@@ -1,10 +1,10 @@
--- `report::text::put_signed` meets its contract. Assumes nothing.
+-- `text::put_signed` meets its contract. Assumes nothing.
 use mir.Syntax.{w64}
 use mir.ValLaws.{toZ-ofZ}
-use Rattle.report.proofs.TextLaws.{wrote-then, signed-negative, signed-other}
+use Rattle.text.proofs.TextLaws.{wrote-then, signed-negative, signed-other}
 use borrow.Author.Needs.{needs}
-use Rattle.report.proofs.text.put_signed.Statement.{statement}
-use Rattle.report.proofs.text.put_signed.Tie as tie
+use Rattle.text.proofs.put_signed.Statement.{statement}
+use Rattle.text.proofs.put_signed.Tie as tie
 
 magnitude-requires : tie.Need-magnitude-requires
 magnitude-requires c κs = search needs

@@ -1,11 +1,11 @@
--- `report::text::put_bytes` meets its contract. The loop's invariant: what is left to write is the bytes from `i` on. Assumes nothing.
+-- `text::put_bytes` meets its contract. The loop's invariant: what is left to write is the bytes from `i` on. Assumes nothing.
 use Prim.Native.Nat.{_≤_, _-_, zero-le}
 use native.Mathlib.Omega.{arith}
 use lib.ListN.{length, drop, drop-of-length-le}
-use Rattle.report.proofs.TextLaws.{Left, left-start, left-step, left-end, next-byte}
+use Rattle.text.proofs.TextLaws.{Left, left-start, left-step, left-end, next-byte}
 use borrow.Author.Needs.{needs}
-use Rattle.report.proofs.text.put_bytes.Statement.{statement}
-use Rattle.report.proofs.text.put_bytes.Tie as tie
+use Rattle.text.proofs.put_bytes.Statement.{statement}
+use Rattle.text.proofs.put_bytes.Tie as tie
 
 abbrev Inv-loop : tie.InvT-loop
 Inv-loop out₀ at bytes next₀ i₀ out next i = (i ≤ length bytes) × Left out₀ at bytes out next (drop i bytes)

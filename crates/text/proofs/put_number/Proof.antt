@@ -1,8 +1,8 @@
--- `report::text::put_number` meets its contract. Assumes nothing.
-use Rattle.report.proofs.TextLaws.{wrote-then}
+-- `text::put_number` meets its contract. Assumes nothing.
+use Rattle.text.proofs.TextLaws.{wrote-then}
 use borrow.Author.Needs.{needs}
-use Rattle.report.proofs.text.put_number.Statement.{statement}
-use Rattle.report.proofs.text.put_number.Tie as tie
+use Rattle.text.proofs.put_number.Statement.{statement}
+use Rattle.text.proofs.put_number.Tie as tie
 
 put-decimal-requires : tie.Need-put-decimal-requires
 put-decimal-requires c κs = search needs

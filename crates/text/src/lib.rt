@@ -3,7 +3,7 @@ ghost use mathlib.Core.Path.{_≡_};
 ghost use mathlib.Core.List.{[], _∷_, _++_};
 ghost use Prim.Native.Nat.{_+_, _≤_, _<_};
 ghost use lib.ListN.{length};
-ghost use Rattle.report.specs.Text.{decimal, signed, Wrote};
+ghost use Rattle.text.specs.Text.{decimal, signed, Wrote};
 
 pub fn put(out: &mut [u8], at: usize, byte: u8) -> usize
     requires { ⌜ at ≤ length (now out) ⌝ }
@@ -47,7 +47,7 @@ pub fn put_decimal(out: &mut [u8], at: usize, x: u64) -> usize
     put(out, next, digit(x % 10))
 }
 
-pub fn put_signed(out: &mut [u8], at: usize, x: i64) -> usize
+fn put_signed(out: &mut [u8], at: usize, x: i64) -> usize
     requires { ⌜ at ≤ length (now out) ⌝ }
     ensures { λ r. ⌜ Wrote (now (out .entry)) at (signed x) r (now (out .exit)) ⌝ }
 {
