@@ -2,12 +2,13 @@
 use mathlib.Core.Path.{_≡_, refl, ap}
 use mathlib.Core.Logic.{_≢_}
 use mathlib.Core.Bool.{true}
-use mathlib.Core.List.{List, []}
+use mathlib.Core.List.{List, [], _++_}
 use Prim.Native.Nat.{ℕ, _%_}
 use lib.IntN.{pos}
-use lib.ListN.{length, take}
+use lib.ListN.{length, take, drop}
 use borrow.Author.Tests.{ne-eqb}
 use Rattle.numbers.proofs.CauseLaws.{done-else}
+use Rattle.numbers.specs.Causes.{ifDone}
 use Rattle.rules.specs.Refusals.{notABook}
 use Rattle.rules.specs.Entry.{Key}
 use Rattle.rules.specs.Words.{isBook}
@@ -18,10 +19,11 @@ use Rattle.rules.specs.Control.{controlCause, controlAnswer, controlWords}
 use Rattle.rules.specs.declared.Case.{Case}
 use Rattle.rules.specs.Book.{openCause, openWords, postCause, postAnswer, postWords, withdrawCause, withdrawWords, countCause, countAnswer, noRead, readCause, readAnswer}
 use Rattle.rules.proofs.BookLaws.{open-refused, post-refused, withdraw-refused}
+use Rattle.coding.proofs.BytesLaws.{Bytes}
 use Rattle.coding.specs.Bytes.{isWhole, onWords, withWords, yesNo}
-use Rattle.coding.specs.Coding.{mostWords, Decoded}
+use Rattle.coding.specs.Coding.{mostWords, Decoded, overBytes}
 use Rattle.coding.proofs.CutLaws.{cut-long, same-count, same-entry, same-post, same-withdraw, same-tally, same-balance, same-collateral, same-control, same-file, cut-open, cut-post, cut-withdraw, cut-control, cut-file}
-use Rattle.coding.proofs.CodingLaws.{Call, full, words-whole, words-cut, on-words}
+use Rattle.coding.proofs.CodingLaws.{Call, full, words-whole, words-cut, on-words, written-bytes}
 
 module _ {bs ws : List ℕ} {n : ℕ} (r : Decoded bs ws n) where
   pub on-is-book : yesNo (isBook (take n ws)) ≡ onWords bs (λ us. yesNo (isBook us)) 0
@@ -75,11 +77,11 @@ module _ (bs : List ℕ) where
   open-odd R TM h = rw (ne-eqb (length bs % 4) 0 h) (refl, refl)
 
   -- the calls that write
-  pub no-open : (R TM : ℕ) → openWords [] R TM ≡ []
+  no-open : (R TM : ℕ) → openWords [] R TM ≡ []
   unfolding openCause openWords
   no-open R TM = refl
 
-  abbrev pub openCall : ℕ → ℕ → Call bs
+  abbrev openCall : ℕ → ℕ → Call bs
   openCall R TM =
       record {
         cause = λ ws. openCause (length ws) R TM;
@@ -89,15 +91,15 @@ module _ (bs : List ℕ) where
         uncut = cut-open mostWords full (wordsOf bs) R TM;
       }
 
-  pub no-post : (k : Key) (a : ℕ) → postWords [] k a ≡ []
+  no-post : (k : Key) (a : ℕ) → postWords [] k a ≡ []
   unfolding isBook postCause postWords
   no-post k a = refl
 
-  pub post-keeps : (k : Key) (a : ℕ) (ws : List ℕ) → postAnswer ws k a .answer ≢ 0 → postWords ws k a ≡ ws
+  post-keeps : (k : Key) (a : ℕ) (ws : List ℕ) → postAnswer ws k a .answer ≢ 0 → postWords ws k a ≡ ws
   unfolding postAnswer
   post-keeps k a ws h = post-refused ws k a h
 
-  abbrev pub postCall : Key → ℕ → Call bs
+  abbrev postCall : Key → ℕ → Call bs
   postCall k a =
       record {
         cause = λ ws. postAnswer ws k a .answer;
@@ -107,11 +109,11 @@ module _ (bs : List ℕ) where
         uncut = cut-post mostWords full (wordsOf bs) k a;
       }
 
-  pub no-withdraw : (n : ℕ) → withdrawWords [] n ≡ []
+  no-withdraw : (n : ℕ) → withdrawWords [] n ≡ []
   unfolding isBook withdrawCause withdrawWords
   no-withdraw n = refl
 
-  abbrev pub withdrawCall : ℕ → Call bs
+  abbrev withdrawCall : ℕ → Call bs
   withdrawCall n =
       record {
         cause = λ ws. withdrawCause ws n;
@@ -121,15 +123,15 @@ module _ (bs : List ℕ) where
         uncut = cut-withdraw mostWords full (wordsOf bs) n;
       }
 
-  pub no-control : (d : ℕ) → controlWords [] d ≡ []
+  no-control : (d : ℕ) → controlWords [] d ≡ []
   unfolding isBook controlCause controlWords
   no-control d = refl
 
-  pub control-keeps : (d : ℕ) (ws : List ℕ) → controlAnswer ws d .answer ≢ 0 → controlWords ws d ≡ ws
+  control-keeps : (d : ℕ) (ws : List ℕ) → controlAnswer ws d .answer ≢ 0 → controlWords ws d ≡ ws
   unfolding controlAnswer controlWords
   control-keeps d ws h = done-else _ _ _ h
 
-  abbrev pub controlCall : ℕ → Call bs
+  abbrev controlCall : ℕ → Call bs
   controlCall d =
       record {
         cause = λ ws. controlAnswer ws d .answer;
@@ -139,15 +141,15 @@ module _ (bs : List ℕ) where
         uncut = cut-control mostWords full (wordsOf bs) d;
       }
 
-  pub no-file : (file : List ℕ) → fileWords [] file ≡ []
+  no-file : (file : List ℕ) → fileWords [] file ≡ []
   unfolding isBook fileCause fileWords
   no-file file = refl
 
-  pub file-keeps : (file ws : List ℕ) → fileAnswer ws file .answer ≢ 0 → fileWords ws file ≡ ws
+  file-keeps : (file ws : List ℕ) → fileAnswer ws file .answer ≢ 0 → fileWords ws file ≡ ws
   unfolding fileAnswer fileWords
   file-keeps file ws h = done-else _ _ _ h
 
-  abbrev pub fileCall : List ℕ → Call bs
+  abbrev fileCall : List ℕ → Call bs
   fileCall file =
       record {
         cause = λ ws. fileAnswer ws file .answer;
@@ -156,3 +158,23 @@ module _ (bs : List ℕ) where
         none = no-file file;
         uncut = cut-file mostWords full (wordsOf bs) file;
       }
+
+-- n words read, of which a call leaves vs, written back where its answer is 0: the bytes of the words that it leaves
+abbrev Written : List ℕ → List ℕ → List ℕ → ℕ → ℕ → (List ℕ → List ℕ) → Type 0
+Written bs ws vs n answer leaves = ifDone answer (overBytes (take n (vs ++ drop n ws)) bs) bs ≡ withWords bs leaves
+
+module _ {bs ws vs : List ℕ} {n answer : ℕ} (bytes : Bytes bs) (d : Decoded bs ws n) (array : length ws ≡ 15363) (kept : length vs ≡ length (take n ws)) where
+  pub open-bytes : (R TM : ℕ) → vs ≡ openWords (take n ws) R TM → answer ≡ openCause (length (take n ws)) R TM → Written bs ws vs n answer (λ us. openWords us R TM)
+  open-bytes R TM = written-bytes (openCall bs R TM) bytes d array kept
+
+  pub post-bytes : (k : Key) (a : ℕ) → vs ≡ postWords (take n ws) k a → answer ≡ postAnswer (take n ws) k a .answer → Written bs ws vs n answer (λ us. postWords us k a)
+  post-bytes k a = written-bytes (postCall bs k a) bytes d array kept
+
+  pub withdraw-bytes : (number : ℕ) → vs ≡ withdrawWords (take n ws) number → answer ≡ withdrawCause (take n ws) number → Written bs ws vs n answer (λ us. withdrawWords us number)
+  withdraw-bytes number = written-bytes (withdrawCall bs number) bytes d array kept
+
+  pub control-bytes : (day : ℕ) → vs ≡ controlWords (take n ws) day → answer ≡ controlAnswer (take n ws) day .answer → Written bs ws vs n answer (λ us. controlWords us day)
+  control-bytes day = written-bytes (controlCall bs day) bytes d array kept
+
+  pub file-bytes : (file : List ℕ) → vs ≡ fileWords (take n ws) file → answer ≡ fileAnswer (take n ws) file .answer → Written bs ws vs n answer (λ us. fileWords us file)
+  file-bytes file = written-bytes (fileCall bs file) bytes d array kept

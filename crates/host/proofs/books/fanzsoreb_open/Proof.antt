@@ -2,8 +2,8 @@
 use mathlib.Core.Path.{_∙_}
 use borrow.Author.Needs.{needs}
 use borrow.Author.Tests.{eq-eqb}
-use Rattle.coding.proofs.CodingLaws.{parts, written-bytes}
-use Rattle.coding.proofs.CallLaws.{open-odd, on-open, openCall}
+use Rattle.coding.proofs.CodingLaws.{parts}
+use Rattle.coding.proofs.CallLaws.{open-odd, on-open, open-bytes}
 use Rattle.host.proofs.books.fanzsoreb_open.Statement.{statement}
 use Rattle.host.proofs.books.fanzsoreb_open.Tie as tie
 
@@ -49,7 +49,7 @@ returns-2 c =
     let TM = s .args .tolerance in (
       p .«open» .ensures .0 ∙ on-open (d .ensures) R TM (eq-eqb _ _ (p .before .before .before .before .before .before .if1 .left)),
       c .before .before .write-back .ensures
-          ∙ written-bytes (openCall (s .args .book .now) R TM) (λ i. p .before .before .before .before .before .before .before .slice-known .given i .fits) (d .ensures) (d .kept .1 .0) (p .«open» .kept .0) (p .«open» .ensures .1) (p .«open» .ensures .0),
+          ∙ open-bytes (λ i. p .before .before .before .before .before .before .before .slice-known .given i .fits) (d .ensures) (d .kept .1 .0) (p .«open» .kept .0) R TM (p .«open» .ensures .1) (p .«open» .ensures .0),
     )
 
 pub fanzsoreb-open-spec : {M : Type 1} → statement M

@@ -2,8 +2,8 @@
 use mathlib.Core.Path.{_∙_, ap}
 use borrow.Author.Needs.{needs}
 use Rattle.rules.specs.Entry.{Key, keyOf}
-use Rattle.coding.proofs.CodingLaws.{parts, written-bytes}
-use Rattle.coding.proofs.CallLaws.{on-post, postCall}
+use Rattle.coding.proofs.CodingLaws.{parts}
+use Rattle.coding.proofs.CallLaws.{on-post, post-bytes}
 use Rattle.host.proofs.books.fanzsoreb_post.Statement.{statement}
 use Rattle.host.proofs.books.fanzsoreb_post.Tie as tie
 
@@ -43,7 +43,7 @@ returns c =
     let amount = s .args .amount in (
       p .post .ensures .0 ∙ on-post (d .ensures) k amount,
       c .before .before .write-back .ensures
-          ∙ written-bytes (postCall (s .args .book .now) k amount) (λ i. p .before .before .before .before .before .before .slice-known .given i .fits) (d .ensures) (d .kept .1 .0) (p .post .kept .0) (p .post .ensures .1) (ap (λ r. r .answer) (p .post .ensures .0)),
+          ∙ post-bytes (λ i. p .before .before .before .before .before .before .slice-known .given i .fits) (d .ensures) (d .kept .1 .0) (p .post .kept .0) k amount (p .post .ensures .1) (ap (λ r. r .answer) (p .post .ensures .0)),
     )
 
 pub fanzsoreb-post-spec : {M : Type 1} → statement M

@@ -1,8 +1,8 @@
 -- `host::books::fanzsoreb_withdraw` meets its contract. Assumes nothing.
 use mathlib.Core.Path.{_∙_}
 use borrow.Author.Needs.{needs}
-use Rattle.coding.proofs.CodingLaws.{parts, written-bytes}
-use Rattle.coding.proofs.CallLaws.{on-withdraw, withdrawCall}
+use Rattle.coding.proofs.CodingLaws.{parts}
+use Rattle.coding.proofs.CallLaws.{on-withdraw, withdraw-bytes}
 use Rattle.host.proofs.books.fanzsoreb_withdraw.Statement.{statement}
 use Rattle.host.proofs.books.fanzsoreb_withdraw.Tie as tie
 
@@ -41,7 +41,7 @@ returns c =
     let number = s .args .number in (
       p .withdraw .ensures .0 ∙ on-withdraw (d .ensures) number,
       c .before .before .write-back .ensures
-          ∙ written-bytes (withdrawCall (s .args .book .now) number) (λ i. p .before .before .before .before .before .before .slice-known .given i .fits) (d .ensures) (d .kept .1 .0) (p .withdraw .kept .0) (p .withdraw .ensures .1) (p .withdraw .ensures .0),
+          ∙ withdraw-bytes (λ i. p .before .before .before .before .before .before .slice-known .given i .fits) (d .ensures) (d .kept .1 .0) (p .withdraw .kept .0) number (p .withdraw .ensures .1) (p .withdraw .ensures .0),
     )
 
 pub fanzsoreb-withdraw-spec : {M : Type 1} → statement M

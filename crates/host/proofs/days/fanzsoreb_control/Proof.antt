@@ -1,8 +1,8 @@
 -- `host::days::fanzsoreb_control` meets its contract. Assumes nothing.
 use mathlib.Core.Path.{_∙_, ap}
 use borrow.Author.Needs.{needs}
-use Rattle.coding.proofs.CodingLaws.{parts, written-bytes}
-use Rattle.coding.proofs.CallLaws.{on-control, controlCall}
+use Rattle.coding.proofs.CodingLaws.{parts}
+use Rattle.coding.proofs.CallLaws.{on-control, control-bytes}
 use Rattle.host.proofs.days.fanzsoreb_control.Statement.{statement}
 use Rattle.host.proofs.days.fanzsoreb_control.Tie as tie
 
@@ -41,7 +41,7 @@ returns c =
     let day = s .args .day in (
       p .control .ensures .0 ∙ on-control (d .ensures) day,
       c .before .before .write-back .ensures
-          ∙ written-bytes (controlCall (s .args .book .now) day) (λ i. p .before .before .before .before .before .before .slice-known .given i .fits) (d .ensures) (d .kept .1 .0) (p .control .kept .0) (p .control .ensures .1) (ap (λ r. r .answer) (p .control .ensures .0)),
+          ∙ control-bytes (λ i. p .before .before .before .before .before .before .slice-known .given i .fits) (d .ensures) (d .kept .1 .0) (p .control .kept .0) day (p .control .ensures .1) (ap (λ r. r .answer) (p .control .ensures .0)),
     )
 
 pub fanzsoreb-control-spec : {M : Type 1} → statement M

@@ -1,8 +1,8 @@
 -- `host::days::fanzsoreb_read_file` meets its contract. Assumes nothing.
 use mathlib.Core.Path.{_∙_, ap}
 use borrow.Author.Needs.{needs}
-use Rattle.coding.proofs.CodingLaws.{parts, written-bytes}
-use Rattle.coding.proofs.CallLaws.{on-file, fileCall}
+use Rattle.coding.proofs.CodingLaws.{parts}
+use Rattle.coding.proofs.CallLaws.{on-file, file-bytes}
 use Rattle.host.proofs.days.fanzsoreb_read_file.Statement.{statement}
 use Rattle.host.proofs.days.fanzsoreb_read_file.Tie as tie
 
@@ -41,7 +41,7 @@ returns c =
     let file = s .args .file .now in (
       p .read-file .ensures .0 ∙ on-file (d .ensures) file,
       c .before .before .write-back .ensures
-          ∙ written-bytes (fileCall (s .args .book .now) file) (λ i. p .before .before .before .before .before .before .before .slice-known .given i .fits) (d .ensures) (d .kept .1 .0) (p .read-file .kept .0) (p .read-file .ensures .1) (ap (λ r. r .answer) (p .read-file .ensures .0)),
+          ∙ file-bytes (λ i. p .before .before .before .before .before .before .before .slice-known .given i .fits) (d .ensures) (d .kept .1 .0) (p .read-file .kept .0) file (p .read-file .ensures .1) (ap (λ r. r .answer) (p .read-file .ensures .0)),
     )
 
 pub fanzsoreb-read-file-spec : {M : Type 1} → statement M
