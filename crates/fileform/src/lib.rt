@@ -1,7 +1,6 @@
-// The form of a day file's bytes: its reader, the walk of its heads and lines, and the writer's side (document 01, 'Day file').
+// The form of a day file's bytes: its reader and the walk of its heads and lines (document 01, 'Day file').
 pub mod reader;
 pub mod walk;
-pub mod writer;
 
 // Where a walk of a file stands: the byte it has come to, the lines of the block still to come, and the block's party and day.
 pub struct Cursor {

@@ -1,12 +1,12 @@
--- `fileform::writer::put_word` meets its contract. Assumes nothing.
+-- `writer::put_word` meets its contract. Assumes nothing.
 use Prim.Native.Nat.{_+_}
 use native.Mathlib.Omega.{arith}
 use lib.ListN.{length, length-set}
 use borrow.Author.Tests.{le-leb, lt-leb}
-use Rattle.fileform.specs.Write.{putCause, putWords, bytesAt}
+use Rattle.writer.specs.Write.{putCause, putWords, bytesAt}
 use borrow.Author.Needs.{needs}
-use Rattle.fileform.proofs.writer.put_word.Statement.{statement}
-use Rattle.fileform.proofs.writer.put_word.Tie as tie
+use Rattle.writer.proofs.put_word.Statement.{statement}
+use Rattle.writer.proofs.put_word.Tie as tie
 
 returns : tie.Need-returns
 unfolding putCause putWords

@@ -1,7 +1,7 @@
 // The writer's side of a day file: a block's head and a line as words, and a word as bytes.
 ghost use mathlib.Core.Path.{_≡_};
 ghost use lib.ListN.{length};
-ghost use Rattle.fileform.specs.Write.{headWords, lineWords, putCause, putWords};
+ghost use Rattle.writer.specs.Write.{headWords, lineWords, putCause, putWords};
 use words::DAY_WORD;
 use words::FIGURES_WORD;
 use words::HIGH_WORD;

@@ -1,10 +1,10 @@
--- `fileform::writer::line_words` meets its contract. Assumes nothing.
+-- `writer::line_words` meets its contract. Assumes nothing.
 use native.Mathlib.Omega.{arith}
 use borrow.Author.Tests.{not-false}
-use Rattle.fileform.proofs.WriteLaws.{line-in, line-refused, line-written}
+use Rattle.writer.proofs.WriteLaws.{line-in, line-refused, line-written}
 use borrow.Author.Needs.{needs}
-use Rattle.fileform.proofs.writer.line_words.Statement.{statement}
-use Rattle.fileform.proofs.writer.line_words.Tie as tie
+use Rattle.writer.proofs.line_words.Statement.{statement}
+use Rattle.writer.proofs.line_words.Tie as tie
 
 returns : tie.Need-returns
 returns c = line-refused (c .before .args .entry-type) (c .before .args .counterparty) (c .before .args .amount) (c .if1 .taken)

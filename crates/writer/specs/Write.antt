@@ -8,8 +8,8 @@ use Rattle.numbers.specs.Causes.{unless, firstOf, ifDone}
 use Rattle.rules.specs.Refusals.{badLength, badFigure}
 use Rattle.rules.specs.Words.{word, typeBits}
 use Rattle.rules.specs.Entry.{standing}
-use Rattle.fileform.specs.declared.writer.HeadWords.{HeadWords}
-use Rattle.fileform.specs.declared.writer.LineWords.{LineWords}
+use Rattle.writer.specs.declared.HeadWords.{HeadWords}
+use Rattle.writer.specs.declared.LineWords.{LineWords}
 
 -- each figure fits its bits: party 0-15, lines 16-27, day 0-27
 unfoldable pub headFits : ℕ → ℕ → ℕ → ℕ

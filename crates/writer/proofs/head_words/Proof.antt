@@ -1,9 +1,9 @@
--- `fileform::writer::head_words` meets its contract. Assumes nothing.
+-- `writer::head_words` meets its contract. Assumes nothing.
 use native.Mathlib.Omega.{arith}
 use borrow.Author.Tests.{not-false}
-use Rattle.fileform.proofs.WriteLaws.{head-in, head-refused, head-written}
-use Rattle.fileform.proofs.writer.head_words.Statement.{statement}
-use Rattle.fileform.proofs.writer.head_words.Tie as tie
+use Rattle.writer.proofs.WriteLaws.{head-in, head-refused, head-written}
+use Rattle.writer.proofs.head_words.Statement.{statement}
+use Rattle.writer.proofs.head_words.Tie as tie
 
 returns : tie.Need-returns
 returns c = head-refused (c .before .args .party) (c .before .args .day) (c .before .args .lines) (c .if1 .taken)

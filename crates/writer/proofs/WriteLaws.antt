@@ -17,10 +17,10 @@ use Rattle.rules.specs.Entry.{keyOf}
 use Rattle.rules.specs.Words.{word, valueOf, typeBits}
 use Rattle.rules.specs.DayFile.{line, linesIn, partyIn, isHead, isLine, itemsFrom}
 use Rattle.rules.proofs.WordLaws.{word-kind, word-value}
-use Rattle.fileform.specs.declared.writer.HeadWords.{HeadWords}
-use Rattle.fileform.specs.declared.writer.LineWords.{LineWords}
+use Rattle.writer.specs.declared.HeadWords.{HeadWords}
+use Rattle.writer.specs.declared.LineWords.{LineWords}
 use Rattle.coding.specs.Coding.{wordAt}
-use Rattle.fileform.specs.Write.{headFits, headWords, lineFits, lineWords, bytesAt, putCause, putWords}
+use Rattle.writer.specs.Write.{headFits, headWords, lineFits, lineWords, bytesAt, putCause, putWords}
 
 pub head-in : (p d n : ℕ) → every (ltb p 65536 ∷ ltb d 268435456 ∷ ltb n 4096 ∷ []) ≡ true → (p < 65536) × (d < 268435456) × (n < 4096)
 head-in p d n e =
