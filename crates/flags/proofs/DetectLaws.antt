@@ -14,7 +14,7 @@ use Rattle.rules.specs.Balance.{balance}
 use Rattle.rules.specs.Control.{Parties, detectedIn}
 use Rattle.rules.proofs.WordLaws.{book-facts, within-true}
 use Rattle.rules.proofs.Limits.{volume-sum, bought-sum}
-use Rattle.position.specs.Bounded.{Bounded}
+use Rattle.tally.specs.Bounded.{Bounded}
 use Rattle.flags.specs.Tables.{flagged, noFlags, tallyAt, boughtCell, tableOf, detectedAmong, checked, Flaggable}
 use Rattle.flags.proofs.TableLaws.{length-table, sum-cell, bought-cell, tally-cells}
 

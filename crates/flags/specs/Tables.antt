@@ -13,7 +13,7 @@ use Rattle.rules.specs.Entry.{Record, keyOf, recordOf, key, isStanding, isCance
 use Rattle.rules.specs.Words.{entries, coefficientOf, toleranceOf}
 use Rattle.rules.specs.Balance.{dayAhead, balanceOf, isDetected}
 use Rattle.rules.specs.Control.{Parties, detectedIn}
-use Rattle.position.specs.Bounded.{Bounded}
+use Rattle.tally.specs.Bounded.{Bounded}
 use Rattle.rules.specs.declared.Tally.{Tally}
 use Rattle.rules.specs.declared.EntryRead.{EntryRead}
 

@@ -7,7 +7,7 @@ ghost use lib.ListN.{length, getD, take, drop};
 ghost use Rattle.rules.specs.Entry.{legal};
 ghost use Rattle.rules.specs.Words.{isBook, entries};
 ghost use Rattle.rules.specs.Balance.{dayAhead, balanceOf, isDetected};
-ghost use Rattle.position.specs.Bounded.{Bounded};
+ghost use Rattle.tally.specs.Bounded.{Bounded};
 ghost use Rattle.flags.specs.Tables.{flagged, noFlags, recordRead, counts, addTo, added, mostCell, noSums, tableOf, tallyAt, boughtCell, Flaggable, detectedAmong, checked};
 use position::parts;
 use rules::EntryRead;

@@ -14,9 +14,9 @@ use Rattle.rules.specs.Balance.{Volume, tallyOf, boughtBy, balance, balanceOf, 
 use Rattle.rules.specs.declared.TallyAnswer.{TallyAnswer}
 use Rattle.rules.specs.declared.BalanceAnswer.{BalanceAnswer}
 use Rattle.rules.proofs.WordLaws.{book-facts, within-true}
-use Rattle.position.specs.Bounded.{Bounded}
-use Rattle.position.specs.Scan.{scanned, noneFor}
-use Rattle.position.proofs.TallyLaws.{sums-to, bought-to}
+use Rattle.tally.specs.Bounded.{Bounded}
+use Rattle.tally.specs.Scan.{scanned, noneFor}
+use Rattle.tally.proofs.TallyLaws.{sums-to, bought-to}
 
 -- a call that is not refused
 pub record Passes (ws : List ℕ) (p d : ℕ) : Type 0 where

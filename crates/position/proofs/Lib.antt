@@ -1,3 +1,2 @@
 pub mod BalanceLaws
-pub mod TallyLaws
 pub mod AnswerLaws

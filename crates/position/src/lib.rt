@@ -1,7 +1,7 @@
 // The tally of a party's day, and both balances (01, 'The two balances').
 ghost use mathlib.Core.Path.{_≡_};
 ghost use mathlib.Core.Bool.{cond};
-ghost use Rattle.position.specs.Bounded.{Bounded};
+ghost use Rattle.tally.specs.Bounded.{Bounded};
 ghost use Rattle.rules.specs.Balance.{partyDayCause, tallyAnswer, balanceOf, balanceAnswer, isDetected, dayAhead, delivery};
 use rules::BalanceAnswer;
 use rules::Tally;
@@ -31,9 +31,9 @@ pub fn tally(book: &[u32], party: u32, day: u32) -> TallyAnswer
 {
     let cause = cause_of(book, party, day);
     if cause != 0 {
-        return parts::no_tally(cause);
+        return tally::no_tally(cause);
     }
-    parts::scan(book, party, day)
+    tally::scan(book, party, day)
 }
 
 // The balance of a tally that was read, for the day-ahead or for delivery.
@@ -58,7 +58,7 @@ fn balance_with(ahead: bool, book: &[u32], party: u32, day: u32) -> BalanceAnswe
             balance: 0,
         };
     }
-    let read = parts::scan(book, party, day);
+    let read = tally::scan(book, party, day);
     let t = read.tally;
     let balance = balance_of(
         ahead,

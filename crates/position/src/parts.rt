@@ -1,84 +1,11 @@
-// Internal: the scan of a checked book and the balances of a tally, for this crate and those above it. A caller meets each `requires`.
+// Internal: the balances of a tally, for this crate and those above it. A caller meets each `requires`.
 ghost use mathlib.Core.Path.{_≡_};
 ghost use Prim.Native.Nat.{_+_, _*_, _≤_, max};
-ghost use mathlib.Core.Bool.{true};
 ghost use lib.IntN.{subℕ};
-ghost use Rattle.position.specs.Bounded.{Bounded, SumsWithin, mostSum};
-ghost use Rattle.position.specs.Scan.{scanned, noneFor};
-ghost use Rattle.rules.specs.Entry.{lastParty, lastDay};
-ghost use Rattle.rules.specs.Words.{isBook, entries, mostCoefficient, mostTolerance};
-ghost use Rattle.rules.specs.Balance.{noTally, balanceOf, saleSide, coverSide, dayAhead, delivery};
+ghost use Rattle.tally.specs.Bounded.{Bounded, SumsWithin, mostSum};
+ghost use Rattle.rules.specs.Words.{mostCoefficient, mostTolerance};
+ghost use Rattle.rules.specs.Balance.{balanceOf, saleSide, coverSide, dayAhead, delivery};
 use rules::Tally;
-use rules::TallyAnswer;
-
-// The kind 3 word of a standing type 6 entry with counterparty 0: an export. Each counterparty adds 256.
-const EXPORT: u32 = 0x30000006;
-
-// The first kind 3 word of status 1.
-const WITHDRAWN_WORD: u32 = 0x31000000;
-
-// One pass over a checked book for the tally and B. The tally comes by value and goes back by value; each amount is added
-// where its sum lies. Whole words are compared: a word of a book has its kind and no unnamed bit.
-fn tallied(mut t: Tally, book: &[u32], day: u32) -> TallyAnswer
-    requires { ⌜ isBook (now book) ≡ true ⌝ ∗ ⌜ t .party ≤ lastParty ⌝ ∗ ⌜ day ≤ lastDay ⌝ ∗ ⌜ t .sums ≡ noTally .sums ⌝ }
-    ensures { λ r. ⌜ r ≡ scanned (t .party) day (entries (now (book .entry))) ⌝ }
-{
-    let count = words::count_of(book) as usize;
-    let own = words::PARTY_WORD + t.party;
-    let dated = words::DAY_WORD + day;
-    let sold = EXPORT + 256 * t.party;
-    let mut bought: u64 = 0;
-    let mut i: usize = 0;
-    while i < count {
-        let at = 3 + 5 * i;
-        let today = book[at + 1] == dated;
-        let figures = book[at + 2];
-        if today
-            & (book[at] == own)
-            & (figures < WITHDRAWN_WORD)
-            & (figures % 256 <= 16)
-            & !(figures == EXPORT)
-        {
-            let place = (figures % 256 - 1) as usize;
-            t.sums[place] = t.sums[place] + words::amount_at(book, at);
-        }
-        if today & (figures == sold) {
-            bought += words::amount_at(book, at);
-        }
-        i += 1;
-    }
-    TallyAnswer {
-        answer: 0,
-        tally: t,
-        bought,
-    }
-}
-
-// The tally and B of a party's day.
-pub fn scan(book: &[u32], party: u32, day: u32) -> TallyAnswer
-    requires { ⌜ isBook (now book) ≡ true ⌝ ∗ ⌜ party ≤ lastParty ⌝ ∗ ⌜ day ≤ lastDay ⌝ }
-    ensures { λ r. ⌜ r ≡ scanned party day (entries (now (book .entry))) ⌝ }
-{
-    let t = Tally {
-        party,
-        sums: [0u64; 16],
-    };
-    tallied(t, book, day)
-}
-
-// The tally of a refusal: each figure is zero.
-pub fn no_tally(cause: u32) -> TallyAnswer
-    ensures { λ r. ⌜ r ≡ noneFor cause ⌝ }
-{
-    TallyAnswer {
-        answer: cause,
-        tally: Tally {
-            party: 0,
-            sums: [0u64; 16],
-        },
-        bought: 0,
-    }
-}
 
 // A difference of two figures, signed.
 fn difference(a: u64, b: u64) -> i64

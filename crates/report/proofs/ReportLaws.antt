@@ -19,7 +19,7 @@ use Rattle.dayfile.proofs.FileLaws.{file-stays}
 use Rattle.rules.specs.Words.{isBook, entries, coefficientOf, toleranceOf}
 use Rattle.rules.specs.Balance.{Volume, balanceOf, balanceAnswer, partyDayCause}
 use Rattle.rules.specs.declared.TallyAnswer.{TallyAnswer}
-use Rattle.position.specs.Scan.{scanned}
+use Rattle.tally.specs.Scan.{scanned}
 use Rattle.position.proofs.AnswerLaws.{no-cause, balance-done}
 use Rattle.io.specs.Counts.{Counts}
 use Rattle.text.specs.Text.{Wrote}

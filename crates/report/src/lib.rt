@@ -30,7 +30,7 @@ fn put_pair(book: &[u32], party: u32, day: u32, out: &mut [u8], at: usize) -> us
     requires { ⌜ Asked (now book) party day ⌝ }
     ensures { λ r. ⌜ Wrote (now (out .entry)) at (lineOf (now (book .entry)) party day) r (now (out .exit)) ⌝ }
 {
-    let read = parts::scan(book, party, day);
+    let read = tally::scan(book, party, day);
     let t = read.tally;
     let bought = read.bought;
     let coefficient = words::coefficient_of(book);

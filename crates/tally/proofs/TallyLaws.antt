@@ -24,8 +24,8 @@ use Rattle.rules.proofs.WordLaws.{no-fault, legal-bounds, entry-facts, bits-bac
 use Rattle.rules.proofs.SumOrder.{forTests, toTests}
 use Rattle.rules.proofs.Limits.{volume-sum, bought-sum}
 use Rattle.words.proofs.BookCode.{book-within, book-entry}
-use Rattle.position.specs.Bounded.{mostSum, SumsWithin}
-use Rattle.position.specs.Scan.{scanned}
+use Rattle.tally.specs.Bounded.{mostSum, SumsWithin}
+use Rattle.tally.specs.Scan.{scanned}
 
 -- the words of a legal entry, by its figures
 pub record IsRead (a b w : ℕ) (r : Record) : Type 0 where

@@ -1,4 +1,4 @@
--- `position::parts::tallied` meets its contract. The loop's invariant: the tally and B of the entries passed. Assumes nothing.
+-- `tally::tallied` meets its contract. The loop's invariant: the tally and B of the entries passed. Assumes nothing.
 use mathlib.Core.Path.{refl, sym, _∙_}
 use mathlib.Core.Logic.{⊎-elim}
 use Prim.Native.Nat.{_<_, _-_, _*_, _+_, _%_}
@@ -8,9 +8,9 @@ use borrow.Author.Needs.{needs}
 use Rattle.rules.specs.Words.{entries, countOf}
 use Rattle.rules.specs.Balance.{tallyOf}
 use Rattle.words.proofs.BookCode.{book-long}
-use Rattle.position.proofs.TallyLaws.{SoFar, Adds, readAt, none-yet, all-read, adds-same, bought-to, own-adds, own-none, sold-adds, sold-none, readTo}
-use Rattle.position.proofs.parts.tallied.Statement.{statement}
-use Rattle.position.proofs.parts.tallied.Tie as tie
+use Rattle.tally.proofs.TallyLaws.{SoFar, Adds, readAt, none-yet, all-read, adds-same, bought-to, own-adds, own-none, sold-adds, sold-none, readTo}
+use Rattle.tally.proofs.tallied.Statement.{statement}
+use Rattle.tally.proofs.tallied.Tie as tie
 
 abbrev Inv-loop : tie.InvT-loop
 Inv-loop book day t₀ count own dated sold bought₀ i₀ t bought i = SoFar book (t₀ .party) day i t bought
