@@ -3,18 +3,31 @@ use crate::score::Score;
 use crate::score::done;
 use crate::score::refused;
 
-pub fn disagree(s: Score) -> Score {
+// An imbalance one short and one long.
+pub fn imbalances(s: Score) -> Score {
     let prices = [5u32, 5];
     let volumes = [1i32, 2, 3, 4, 5];
+    let dm = [1i32, 2];
+    let t = refused(s, &prices, &volumes[..3], 2, &dm, 0, 11);
+    refused(t, &prices, &volumes, 2, &dm, 0, 11)
+}
+
+// A DM one short and one long.
+pub fn controls(s: Score) -> Score {
+    let prices = [5u32, 5];
+    let volumes = [1i32, 2, 3, 4];
     let dm = [1i32, 2, 3];
-    // an imbalance one short and one long, a DM one short and one long, no prices
-    let mut t = refused(s, &prices, &volumes[..3], 2, &dm[..2], 0, 11);
-    t = refused(t, &prices, &volumes, 2, &dm[..2], 0, 11);
-    t = refused(t, &prices, &volumes[..4], 2, &dm[..1], 0, 11);
-    t = refused(t, &prices, &volumes[..4], 2, &dm, 0, 11);
-    t = refused(t, &prices[..0], &volumes[..4], 2, &dm[..2], 0, 11);
-    // rows 0 with an imbalance
-    refused(t, &prices, &volumes[..2], 0, &dm[..2], 0, 11)
+    let t = refused(s, &prices, &volumes, 2, &dm[..1], 0, 11);
+    refused(t, &prices, &volumes, 2, &dm, 0, 11)
+}
+
+// No prices; rows 0 with an imbalance.
+pub fn nothing(s: Score) -> Score {
+    let prices = [5u32, 5];
+    let volumes = [1i32, 2, 3, 4];
+    let dm = [1i32, 2];
+    let t = refused(s, &prices[..0], &volumes, 2, &dm, 0, 11);
+    refused(t, &prices, &volumes[..2], 0, &dm, 0, 11)
 }
 
 // 11 before 12: beside the lengths, prices, imbalance, DM, rows and group are out of range.

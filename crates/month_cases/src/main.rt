@@ -7,28 +7,43 @@ mod ranges;
 mod score;
 
 fn main() {
-    let none = score::none();
-    let mut s = months::starred(none);
-    s = months::weighted(s);
-    s = months::halves(s);
-    s = months::absolute(s);
-    s = months::opposite(s);
-    s = lengths::disagree(s);
-    s = lengths::before_ranges(s);
-    s = lengths::hours(s);
-    s = lengths::wide(s);
-    s = ranges::without_figures(s);
-    s = ranges::places(s);
-    s = ranges::prices(s);
-    s = ranges::volumes(s);
+    let mut s = averages(score::none());
+    s = refusals(s);
     s = large::levels(s);
     s = large::ramps(s);
     print(b"month step: ", s);
-    let mut c = ceilings::starred(none);
+    let mut c = ceilings::starred(score::none());
     c = ceilings::positions(c);
     c = ceilings::large(c);
     c = ceilings::ranges(c);
     print(b"sales ceiling: ", c);
+}
+
+fn averages(s: score::Score) -> score::Score {
+    let mut t = months::starred(s);
+    t = months::weighted(t);
+    t = months::halves(t);
+    t = months::absolute(t);
+    months::opposite(t)
+}
+
+fn refusals(s: score::Score) -> score::Score {
+    let mut t = lengths::imbalances(s);
+    t = lengths::controls(t);
+    t = lengths::nothing(t);
+    t = lengths::before_ranges(t);
+    t = lengths::hours(t);
+    t = lengths::wide(t);
+    ranges_of(t)
+}
+
+fn ranges_of(s: score::Score) -> score::Score {
+    let mut t = ranges::without_figures(s);
+    t = ranges::rows(t);
+    t = ranges::groups(t);
+    t = ranges::prices(t);
+    t = ranges::volumes(t);
+    ranges::dm_edges(t)
 }
 
 fn print(name: &[u8], s: score::Score) {
