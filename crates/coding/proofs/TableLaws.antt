@@ -123,3 +123,11 @@ module _ (ps vs ds : List ℕ) (rows group : ℕ) where
     most-figures h =
         let v = eqb-true (length vs / 4) (rows * (length ps / 4)) (holds .1 .1 .1 .1 .0) in
         omega (arith, mul-le-mul h (leb-true (length ps / 4) 745 (holds .0)))
+
+    -- tables of a month without hours
+    pub none-within : length ps ≡ 0 → Within ps vs ds 1 1 1
+    none-within e =
+        let hours : length ps / 4 ≡ 0 = omega arith in
+        let d = eqb-true (length ds / 4) (length ps / 4) (holds .1 .1 .1 .1 .1 .0) in
+        let v : length vs / 4 ≡ rows * 0 = eqb-true (length vs / 4) (rows * (length ps / 4)) (holds .1 .1 .1 .1 .0) ∙ ap (λ h. rows * h) hours in
+        record { prices = omega arith; imbalance = omega arith; dm = omega arith }

@@ -88,7 +88,26 @@ fn step_within(
     )
 }
 
-// The same with arrays for one group's figures, and for the most groups'.
+// The same with arrays for no figures, for one group's, and for the most groups'.
+fn step_none(prices: &[u8], imbalance: &[u8], rows: u32, dm: &[u8], group: u32) -> MonthAnswer
+    requires { ⌜ Within (now prices) (now imbalance) (now dm) 1 1 1 ⌝ }
+    ensures { λ r. ⌜ r ≡ monthAnswer (tablesIn (now (prices .entry)) (now (imbalance .entry)) rows (now (dm .entry)) group) ⌝ }
+{
+    let mut words = [0u32; 1];
+    let mut volumes = [0i32; 1];
+    let mut controls = [0i32; 1];
+    step_within(
+        prices,
+        imbalance,
+        rows,
+        dm,
+        group,
+        &mut words,
+        &mut volumes,
+        &mut controls,
+    )
+}
+
 fn step_small(prices: &[u8], imbalance: &[u8], rows: u32, dm: &[u8], group: u32) -> MonthAnswer
     requires { ⌜ Within (now prices) (now imbalance) (now dm) 745 745 745 ⌝ }
     ensures { λ r. ⌜ r ≡ monthAnswer (tablesIn (now (prices .entry)) (now (imbalance .entry)) rows (now (dm .entry)) group) ⌝ }
@@ -136,6 +155,9 @@ pub fn month_on(prices: &[u8], imbalance: &[u8], rows: u32, dm: &[u8], group: u3
     }
     if rows > ROWS {
         return refused(12);
+    }
+    if prices.len() == 0 {
+        return step_none(prices, imbalance, rows, dm, group);
     }
     if imbalance.len() / 4 > HOURS {
         return step_large(prices, imbalance, rows, dm, group);

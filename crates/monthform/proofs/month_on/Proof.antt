@@ -5,7 +5,7 @@ use borrow.Author.Needs.{needs}
 use borrow.Author.Tests.{not-true, not-false}
 use lib.ListN.{length}
 use Rattle.coding.specs.Coding.{lengthsOk}
-use Rattle.coding.proofs.TableLaws.{bad-lengths, many-rows, tables-within, most-figures, on-tables}
+use Rattle.coding.proofs.TableLaws.{bad-lengths, many-rows, tables-within, most-figures, none-within, on-tables}
 use Rattle.monthform.proofs.month_on.Statement.{statement}
 use Rattle.monthform.proofs.month_on.Tie as tie
 
@@ -38,27 +38,39 @@ returns-2 c =
     let a = start e .args in
     c .refused2 .ensures ∙ many-rows (a .prices .now) (a .imbalance .now) (a .dm .now) (a .rows) (a .group) (passed e) (c .before .if2 .taken)
 
-step-large-requires : tie.Need-step-large-requires
-step-large-requires c κs =
+step-none-requires : tie.Need-step-none-requires
+step-none-requires c κs =
     let e = c .before .before in
     let a = start e .args in
-    tables-within (a .prices .now) (a .imbalance .now) (a .dm .now) (a .rows) (a .group) (passed e) 47680 (most-figures (a .prices .now) (a .imbalance .now) (a .dm .now) (a .rows) (a .group) (passed e) (c .before .if2 .left))
+    none-within (a .prices .now) (a .imbalance .now) (a .dm .now) (a .rows) (a .group) (passed e) (c .if3 .taken)
 
 returns-3 : tie.Need-returns-3
 returns-3 c =
     let e = c .before .before .before in
     let a = start e .args in
+    c .step-none .ensures ∙ on-tables (a .prices .now) (a .imbalance .now) (a .dm .now) (a .rows) (a .group) (passed e)
+
+step-large-requires : tie.Need-step-large-requires
+step-large-requires c κs =
+    let e = c .before .before .before in
+    let a = start e .args in
+    tables-within (a .prices .now) (a .imbalance .now) (a .dm .now) (a .rows) (a .group) (passed e) 47680 (most-figures (a .prices .now) (a .imbalance .now) (a .dm .now) (a .rows) (a .group) (passed e) (c .before .before .if2 .left))
+
+returns-4 : tie.Need-returns-4
+returns-4 c =
+    let e = c .before .before .before .before in
+    let a = start e .args in
     c .step-large .ensures ∙ on-tables (a .prices .now) (a .imbalance .now) (a .dm .now) (a .rows) (a .group) (passed e)
 
 step-small-requires : tie.Need-step-small-requires
 step-small-requires c κs =
-    let e = c .before .before in
-    let a = start e .args in
-    tables-within (a .prices .now) (a .imbalance .now) (a .dm .now) (a .rows) (a .group) (passed e) 745 (c .if3 .left)
-
-returns-4 : tie.Need-returns-4
-returns-4 c =
     let e = c .before .before .before in
+    let a = start e .args in
+    tables-within (a .prices .now) (a .imbalance .now) (a .dm .now) (a .rows) (a .group) (passed e) 745 (c .if4 .left)
+
+returns-5 : tie.Need-returns-5
+returns-5 c =
+    let e = c .before .before .before .before in
     let a = start e .args in
     c .step-small .ensures ∙ on-tables (a .prices .now) (a .imbalance .now) (a .dm .now) (a .rows) (a .group) (passed e)
 
@@ -71,7 +83,9 @@ month-on-spec =
     returns
     refused-requires-2
     returns-2
-    step-large-requires
+    step-none-requires
     returns-3
+    step-large-requires
+    returns-4
     step-small-requires
-    returns-4)
+    returns-5)
