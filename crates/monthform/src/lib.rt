@@ -88,7 +88,7 @@ fn step_within(
     )
 }
 
-// The same with arrays for no figures, for one group's, and for the most groups'.
+// The same for a month without hours.
 fn step_none(prices: &[u8], imbalance: &[u8], rows: u32, dm: &[u8], group: u32) -> MonthAnswer
     requires { ⌜ Within (now prices) (now imbalance) (now dm) 1 1 1 ⌝ }
     ensures { λ r. ⌜ r ≡ monthAnswer (tablesIn (now (prices .entry)) (now (imbalance .entry)) rows (now (dm .entry)) group) ⌝ }
@@ -108,12 +108,19 @@ fn step_none(prices: &[u8], imbalance: &[u8], rows: u32, dm: &[u8], group: u32) 
     )
 }
 
-fn step_small(prices: &[u8], imbalance: &[u8], rows: u32, dm: &[u8], group: u32) -> MonthAnswer
-    requires { ⌜ Within (now prices) (now imbalance) (now dm) 745 745 745 ⌝ }
+// The same with arrays for the hours of the longest month.
+fn step_hours(
+    prices: &[u8],
+    imbalance: &[u8],
+    rows: u32,
+    dm: &[u8],
+    group: u32,
+    volumes: &mut [i32],
+) -> MonthAnswer
+    requires { ⌜ Within (now prices) (now imbalance) (now dm) 745 (length (now volumes)) 745 ⌝ }
     ensures { λ r. ⌜ r ≡ monthAnswer (tablesIn (now (prices .entry)) (now (imbalance .entry)) rows (now (dm .entry)) group) ⌝ }
 {
     let mut words = [0u32; HOURS];
-    let mut volumes = [0i32; HOURS];
     let mut controls = [0i32; HOURS];
     step_within(
         prices,
@@ -122,28 +129,26 @@ fn step_small(prices: &[u8], imbalance: &[u8], rows: u32, dm: &[u8], group: u32)
         dm,
         group,
         &mut words,
-        &mut volumes,
+        volumes,
         &mut controls,
     )
+}
+
+// One group's figures, and the most groups'.
+fn step_small(prices: &[u8], imbalance: &[u8], rows: u32, dm: &[u8], group: u32) -> MonthAnswer
+    requires { ⌜ Within (now prices) (now imbalance) (now dm) 745 745 745 ⌝ }
+    ensures { λ r. ⌜ r ≡ monthAnswer (tablesIn (now (prices .entry)) (now (imbalance .entry)) rows (now (dm .entry)) group) ⌝ }
+{
+    let mut volumes = [0i32; HOURS];
+    step_hours(prices, imbalance, rows, dm, group, &mut volumes)
 }
 
 fn step_large(prices: &[u8], imbalance: &[u8], rows: u32, dm: &[u8], group: u32) -> MonthAnswer
     requires { ⌜ Within (now prices) (now imbalance) (now dm) 745 47680 745 ⌝ }
     ensures { λ r. ⌜ r ≡ monthAnswer (tablesIn (now (prices .entry)) (now (imbalance .entry)) rows (now (dm .entry)) group) ⌝ }
 {
-    let mut words = [0u32; HOURS];
     let mut volumes = [0i32; FIGURES];
-    let mut controls = [0i32; HOURS];
-    step_within(
-        prices,
-        imbalance,
-        rows,
-        dm,
-        group,
-        &mut words,
-        &mut volumes,
-        &mut controls,
-    )
+    step_hours(prices, imbalance, rows, dm, group, &mut volumes)
 }
 
 // Lengths that do not agree, or more rows than 64, are refused before the tables are read.
