@@ -8,4 +8,5 @@ pub mod Machine
 pub mod Shows
 pub mod TwinCalls
 pub mod TwoBooks
+pub mod Worked
 pub mod Figures
