@@ -1,6 +1,9 @@
 -- What follows from the definitions of specs/: laws, the worked figures and the order of two books.
 pub mod WordLaws
 pub mod BookLaws
+pub mod LiftLaws
+pub mod CancelLaws
+pub mod ChangeLaws
 pub mod SumOrder
 pub mod CollateralOrder
 pub mod Limits

@@ -9,6 +9,8 @@ pub mod CaseFigures
 pub mod Control
 pub mod DayFile
 pub mod Ceiling
+pub mod Machine
+pub mod Calls
 pub mod Ledger
 pub mod Compared
 pub mod Order

@@ -1,0 +1,93 @@
+-- What the clear causes of each call say, and that each call that changes a book keeps its records legal and within the room. Assumes nothing.
+use mathlib.Core.Path.{_≡_, refl, sym, ap, _∙_}
+use mathlib.Core.Bool.{Bool, true, false, not, _&&_}
+use mathlib.Core.List.{List, [], _∷_, _++_, map}
+use Prim.Native.Nat.{ℕ, _+_, _≤_, _<_}
+use native.Mathlib.Omega.{arith}
+use lib.Dec.{leb, ltb}
+use lib.ListN.{length, getD, set, length-append, length-set}
+use borrow.Author.Tests.{leb-true, ltb-true, not-true}
+use Rattle.numbers.specs.Tests.{all}
+use Rattle.numbers.specs.Causes.{unless, firstOf}
+use Rattle.numbers.proofs.TestLaws.{and-split, all-append, all-set, all-getD}
+use Rattle.numbers.proofs.CauseLaws.{clear-all, unless-zero}
+use Rattle.rules.specs.Entry.{Key, Record, recordOf, key, legal, fault, isMark, isStanding, standing, withdrawn, dayOk}
+use Rattle.rules.specs.Book.{isClosed, shutTo}
+use Rattle.rules.specs.DayFile.{isFile, items, itemCause, linesOf}
+use Rattle.rules.specs.Calls.{Frame, Change, post, withdraw, control, file, noRecord, standsAt, withStatus, postRefusal, withdrawRefusal, withdrawnAt, controlRefusal, fileRefusal, refusal, changed, onRecords}
+use Rattle.rules.proofs.BookLaws.{new-legal, restatus-legal, length-snoc}
+use Rattle.rules.proofs.CancelLaws.{controlled-length, controlled-legals, lines-legal}
+use Rattle.rules.proofs.LiftLaws.{Keeps}
+
+-- the causes of each call taken apart, once
+pub record PostClear (f : Frame) (rs : List Record) (k : Key) (a : ℕ) : Type 0 where
+  pub faultless : fault k a ≡ 0
+  pub not-shut : shutTo k rs ≡ false
+  pub room : length rs < f .room
+
+pub post-clear : (f : Frame) (rs : List Record) (k : Key) (a : ℕ) → postRefusal f rs k a ≡ 0 → PostClear f rs k a
+unfolding postRefusal
+post-clear f rs k a e =
+    let c = clear-all (fault k a ∷ unless (not (shutTo k rs)) 8 ∷ unless (ltb (length rs) (f .room)) 9 ∷ []) e in
+    record { faultless = c .0; not-shut = not-true _ (unless-zero _ 7 (c .1 .0)); room = ltb-true _ _ (unless-zero _ 8 (c .1 .1 .0)) }
+
+pub record WithdrawClear (rs : List Record) (n : ℕ) : Type 0 where
+  pub is-entry : n < length rs
+  pub stands : isStanding (getD rs n noRecord) ≡ true
+  pub not-mark : isMark (getD rs n noRecord) ≡ false
+  pub not-shut : shutTo (key (getD rs n noRecord)) rs ≡ false
+
+pub withdraw-clear : (rs : List Record) (n : ℕ) → withdrawRefusal rs n ≡ 0 → WithdrawClear rs n
+unfolding withdrawRefusal
+withdraw-clear rs n e =
+    let r = getD rs n noRecord in
+    let c = clear-all (unless (not (standsAt rs n && shutTo (key r) rs)) 8 ∷ unless (standsAt rs n && not (isMark r)) 10 ∷ []) e in
+    let s = and-split (standsAt rs n) (not (isMark r)) (unless-zero _ 9 (c .1 .0)) in
+    let t = and-split (ltb n (length rs)) (isStanding r) (s .0) in
+    let o : standsAt rs n && shutTo (key r) rs ≡ false = not-true _ (unless-zero _ 7 (c .0)) in
+    record { is-entry = ltb-true _ _ (t .0); stands = t .1; not-mark = not-true _ (s .1); not-shut = rw (s .0) at o }
+
+pub record ControlClear (f : Frame) (rs : List Record) (d : ℕ) : Type 0 where
+  pub day : d ≤ 36524
+  pub not-closed : isClosed d rs ≡ false
+  pub room : length rs < f .room
+
+pub control-clear : (f : Frame) (rs : List Record) (d : ℕ) → controlRefusal f rs d ≡ 0 → ControlClear f rs d
+unfolding controlRefusal
+control-clear f rs d e =
+    let c = clear-all (unless (dayOk d) 4 ∷ unless (not (isClosed d rs)) 8 ∷ unless (ltb (length rs) (f .room)) 9 ∷ []) e in
+    record { day = leb-true _ _ (unless-zero _ 3 (c .0)); not-closed = not-true _ (unless-zero _ 7 (c .1 .0)); room = ltb-true _ _ (unless-zero _ 8 (c .1 .1 .0)) }
+
+pub record FileClear (f : Frame) (rs : List Record) (bs : List ℕ) : Type 0 where
+  pub is-file : isFile bs ≡ true
+  pub faultless : firstOf (map (itemCause rs) (items bs)) ≡ 0
+  pub room : length rs + length (linesOf (items bs)) ≤ f .room
+
+pub file-clear : (f : Frame) (rs : List Record) (bs : List ℕ) → fileRefusal f rs bs ≡ 0 → FileClear f rs bs
+unfolding fileRefusal
+file-clear f rs bs e =
+    let c = clear-all (unless (isFile bs) 2 ∷ firstOf (map (itemCause rs) (items bs)) ∷ unless (leb (length rs + length (linesOf (items bs))) (f .room)) 9 ∷ []) e in
+    record { is-file = unless-zero _ 1 (c .0); faultless = c .1 .0; room = leb-true _ _ (unless-zero _ 8 (c .1 .1 .0)) }
+
+legals : (f : Frame) (rs : List Record) (c : Change) → all legal rs ≡ true → refusal f rs c ≡ 0 → all legal (changed f rs c) ≡ true
+unfolding refusal changed withdrawnAt all
+legals f rs (post k a) l e =
+    rw (all-append legal rs (recordOf k standing a ∷ []), l, new-legal k a (post-clear f rs k a e .faultless))
+legals f rs (withdraw n) l e =
+    let w = withdraw-clear rs n e in
+    all-set legal rs n _ l (restatus-legal (getD rs n noRecord) (all-getD legal rs l n noRecord (w .is-entry)) (w .not-mark))
+legals f rs (control d) l e =
+    controlled-legals (f .coefficient) (f .tolerance) d rs l (control-clear f rs d e .day)
+legals f rs (file bs) l e =
+    rw (all-append legal rs (linesOf (items bs)), l, lines-legal rs (items bs) (file-clear f rs bs e .faultless))
+
+room : (f : Frame) (rs : List Record) (c : Change) → length rs ≤ f .room → refusal f rs c ≡ 0 → length (changed f rs c) ≤ f .room
+unfolding refusal changed withdrawnAt
+room f rs (post k a) h e = rw (length-snoc rs (recordOf k standing a)) (omega (arith, post-clear f rs k a e .room))
+room f rs (withdraw n) h e = rw (length-set rs n (withStatus withdrawn (getD rs n noRecord))) h
+room f rs (control d) h e =
+    rw (controlled-length (f .coefficient) (f .tolerance) d rs) (omega (arith, control-clear f rs d e .room))
+room f rs (file bs) h e = rw (length-append rs (linesOf (items bs))) (file-clear f rs bs e .room)
+
+pub changes-keep : Keeps onRecords
+changes-keep = record { legals = legals; room = room }
