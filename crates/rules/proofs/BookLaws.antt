@@ -1,4 +1,4 @@
--- Laws of opening, posting and withdrawing, on the words and on the records they hold. Assumes nothing.
+-- Laws of opening, and of what a post and a change of status store, on the words and on the records they hold. Assumes nothing.
 use mathlib.Core.Path.{_≡_, refl, sym, ap, _∙_}
 use mathlib.Core.Logic.{inl, inr, _≢_}
 use mathlib.Core.Bool.{Bool, true, false, not, _&&_, false≢true}
@@ -15,10 +15,10 @@ use Rattle.numbers.specs.Causes.{unless}
 use Rattle.numbers.proofs.TestLaws.{all-set, and-split, and-join, or-cases, or-right, all-append, all-getD}
 use Rattle.numbers.proofs.CauseLaws.{clear-all, unless-zero, done-else}
 use Rattle.numbers.proofs.ListLaws.{drop-past}
-use Rattle.rules.specs.Entry.{Key, Record, keyOf, recordOf, key, legal, fault, statusOk, markOk, isMark, isStanding, isBilateral, standing, withdrawn, cancelled, markType}
+use Rattle.rules.specs.Entry.{Key, Record, keyOf, recordOf, key, noRecord, withStatus, legal, fault, statusOk, markOk, isMark, isStanding, isBilateral, standing, withdrawn, cancelled, markType}
 use Rattle.rules.specs.Words.{word, typeBits, encode, encodeAll, usedWords, laid, isBook, entries, countOf, coefficientOf, toleranceOf, roomIn}
-use Rattle.rules.specs.Book.{openCause, openWords, postCause, posted, postWords, storedAt, entryAt, raised, restatused, withdrawCause, withdrawWords, isStandingAt, shutTo}
-use Rattle.rules.specs.Ledger.{noRecord}
+use Rattle.rules.specs.Book.{openCause, openWords, entryAt}
+use Rattle.rules.specs.Stores.{storedAt, posted, raised, restatused}
 use Rattle.rules.proofs.WordLaws.{Fits, laid-book, room-words, length-used, laid-past, encode-all-append, read-at, book-facts, book-fits, book-laid}
 
 -- opening
@@ -105,9 +105,6 @@ entry-at-laid {R} {TM} {rs} {ws} f n h =
     entry-at (laid R TM rs ws) n (rw (l .count) h) ∙ ap (λ x. getD x n noRecord) (l .holds)
 
 -- the change of one status, on the words of entries and on the records
-abbrev pub withStatus : ℕ → Record → Record
-withStatus s r = recordOf (key r) s (r .amount)
-
 raised-word : (s t c : ℕ) → raised s (word 3 (typeBits t c 0)) ≡ word 3 (typeBits t c s)
 raised-word s t c = omega arith
 
@@ -175,24 +172,7 @@ pub open-refused : (ws : List ℕ) (R TM : ℕ) → openCause (length ws) R TM �
 unfolding openWords
 open-refused ws R TM h = done-else _ _ _ h
 
--- posting
-pub record PostPasses (ws : List ℕ) (k : Key) (a : ℕ) : Type 0 where
-  pub is-book : isBook ws ≡ true
-  pub faultless : fault k a ≡ 0
-  pub not-shut : shutTo k (entries ws) ≡ false
-  pub room : countOf ws < roomIn (length ws)
-
-pub post-passes : (ws : List ℕ) (k : Key) (a : ℕ) → postCause ws k a ≡ 0 → PostPasses ws k a
-unfolding postCause
-post-passes ws k a e =
-    let c = clear-all (unless (isBook ws) 1 ∷ fault k a ∷ unless (not (shutTo k (entries ws))) 8 ∷ unless (ltb (countOf ws) (roomIn (length ws))) 9 ∷ []) e in
-    record {
-      is-book = unless-zero _ 0 (c .0);
-      faultless = c .1 .0;
-      not-shut = not-true _ (unless-zero _ 7 (c .1 .1 .0));
-      room = ltb-true _ _ (unless-zero _ 8 (c .1 .1 .1 .0));
-    }
-
+-- a post and a change of status on the words of any book
 pub posted-book : (ws : List ℕ) (k : Key) (a : ℕ) → isBook ws ≡ true → countOf ws < roomIn (length ws) → posted ws k a ≡ laid (coefficientOf ws) (toleranceOf ws) (entries ws ++ (recordOf k standing a ∷ [])) ws
 posted-book ws k a b h =
     ap (λ w. posted w k a) (book-laid ws b) ∙ posted-laid (book-fits ws b) (rw (book-facts ws b .count) h) k a
@@ -200,80 +180,7 @@ posted-book ws k a b h =
 pub length-snoc : {A : Type 0} (xs : List A) (x : A) → length (xs ++ (x ∷ [])) ≡ length xs + 1
 length-snoc xs x = length-append xs (x ∷ [])
 
-pub post-stays : (ws : List ℕ) (k : Key) (a : ℕ) → postCause ws k a ≡ 0 → Stays ws (posted ws k a) (entries ws ++ (recordOf k standing a ∷ [])) (countOf ws + 1)
-unfolding all
-post-stays ws k a e =
-    let p = post-passes ws k a e in
-    let f = book-facts ws (p .is-book) in
-    let r : Record = recordOf k standing a in
-    let n : length (entries ws ++ (r ∷ [])) ≡ countOf ws + 1 = length-snoc (entries ws) r ∙ ap (λ m. m + 1) (f .count) in
-    laid-stays
-    (record {
-      legals = rw (all-append legal (entries ws) (r ∷ []), f .legals, new-legal k a (p .faultless));
-      coefficient = f .coefficient;
-      tolerance = f .tolerance;
-      long = f .long;
-      room = rw (n, add-one) (p .room);
-    })
-    (posted-book ws k a (p .is-book) (p .room))
-    n
-
-pub post-refused : (ws : List ℕ) (k : Key) (a : ℕ) → postCause ws k a ≢ 0 → postWords ws k a ≡ ws
-unfolding postWords
-post-refused ws k a h = done-else _ _ _ h
-
-pub post-past : (ws : List ℕ) (k : Key) (a : ℕ) → postCause ws k a ≡ 0 → drop (3 + 5 * (countOf ws + 1)) (posted ws k a) ≡ drop (3 + 5 * (countOf ws + 1)) ws
-post-past ws k a e = post-stays ws k a e .past
-
--- withdrawing
-pub record WithdrawPasses (ws : List ℕ) (n : ℕ) : Type 0 where
-  pub is-book : isBook ws ≡ true
-  pub is-entry : n < countOf ws
-  pub stands : isStanding (entryAt ws n) ≡ true
-  pub not-mark : isMark (entryAt ws n) ≡ false
-  pub not-shut : shutTo (key (entryAt ws n)) (entries ws) ≡ false
-
-pub withdraw-passes : (ws : List ℕ) (n : ℕ) → withdrawCause ws n ≡ 0 → WithdrawPasses ws n
-unfolding withdrawCause
-withdraw-passes ws n e =
-    let c = clear-all (unless (isBook ws) 1 ∷ unless (not (isStandingAt ws n && shutTo (key (entryAt ws n)) (entries ws))) 8 ∷ unless (isStandingAt ws n && not (isMark (entryAt ws n))) 10 ∷ []) e in
-    let s = and-split (isStandingAt ws n) (not (isMark (entryAt ws n))) (unless-zero _ 9 (c .1 .1 .0)) in
-    let t = and-split (ltb n (countOf ws)) (isStanding (entryAt ws n)) (s .0) in
-    let o : isStandingAt ws n && shutTo (key (entryAt ws n)) (entries ws) ≡ false = not-true _ (unless-zero _ 7 (c .1 .0)) in
-    record {
-      is-book = unless-zero _ 0 (c .0);
-      is-entry = ltb-true _ _ (t .0);
-      stands = t .1;
-      not-mark = not-true _ (s .1);
-      not-shut = rw (s .0) at o;
-    }
-
 pub restatused-book : (s : ℕ) (ws : List ℕ) (n : ℕ) → isBook ws ≡ true → n < countOf ws → isStanding (entryAt ws n) ≡ true → restatused s ws n ≡ laid (coefficientOf ws) (toleranceOf ws) (set (entries ws) n (withStatus s (getD (entries ws) n noRecord))) ws
 restatused-book s ws n b h e =
     ap (λ w. restatused s w n) (book-laid ws b)
     ∙ restatused-laid s (coefficientOf ws) (toleranceOf ws) (entries ws) ws n (rw (book-facts ws b .count) h) (ap (λ r. r .label .status) (sym (entry-at ws n h)) ∙ eqb-true _ _ e)
-
-pub withdraw-stays : (ws : List ℕ) (n : ℕ) → withdrawCause ws n ≡ 0 → Stays ws (restatused withdrawn ws n) (set (entries ws) n (withStatus withdrawn (getD (entries ws) n noRecord))) (countOf ws)
-withdraw-stays ws n e =
-    let p = withdraw-passes ws n e in
-    let f = book-facts ws (p .is-book) in
-    let r = getD (entries ws) n noRecord in
-    let m : isMark r ≡ false = rw (entry-at ws n (p .is-entry)) at (p .not-mark) in
-    let l = length-set (entries ws) n (withStatus withdrawn r) ∙ f .count in
-    laid-stays
-    (record {
-      legals = all-set legal (entries ws) n _ (f .legals) (restatus-legal r (all-getD legal (entries ws) (f .legals) n noRecord (rw (f .count) (p .is-entry))) m);
-      coefficient = f .coefficient;
-      tolerance = f .tolerance;
-      long = f .long;
-      room = rw l (f .room);
-    })
-    (restatused-book 1 ws n (p .is-book) (p .is-entry) (p .stands))
-    l
-
-pub withdraw-refused : (ws : List ℕ) (n : ℕ) → withdrawCause ws n ≢ 0 → withdrawWords ws n ≡ ws
-unfolding withdrawWords
-withdraw-refused ws n h = done-else _ _ _ h
-
-pub withdraw-past : (ws : List ℕ) (n : ℕ) → withdrawCause ws n ≡ 0 → drop (3 + 5 * countOf ws) (restatused withdrawn ws n) ≡ drop (3 + 5 * countOf ws) ws
-withdraw-past ws n e = withdraw-stays ws n e .past

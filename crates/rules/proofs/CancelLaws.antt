@@ -11,10 +11,9 @@ use Rattle.numbers.specs.Tests.{all}
 use Rattle.numbers.specs.Causes.{firstOf}
 use Rattle.numbers.proofs.TestLaws.{bool-cases, and-split, and-join, every-holds, all-append}
 use Rattle.numbers.proofs.CauseLaws.{else-split}
-use Rattle.rules.specs.Entry.{Record, key, recordOf, legal, fault, isStanding, isBilateral, standing, cancelled}
+use Rattle.rules.specs.Entry.{Record, key, recordOf, withStatus, legal, fault, isStanding, isBilateral, standing, cancelled}
 use Rattle.rules.specs.Control.{Parties, isToCancel, cancelOf, firstPass, secondPass, afterFirst, afterSecond, markOf, controlledRecords}
 use Rattle.rules.specs.DayFile.{Item, line, emptyBlock, itemCause, linesOf}
-use Rattle.rules.specs.Calls.{withStatus}
 use Rattle.rules.proofs.BookLaws.{cancel-legal, mark-legal, new-legal, length-snoc}
 
 -- the day's standing bilateral sales, counterparty above 0

@@ -11,10 +11,12 @@ use Rattle.numbers.specs.Tests.{all}
 use Rattle.numbers.specs.Causes.{unless, firstOf}
 use Rattle.numbers.proofs.TestLaws.{and-split, all-append, all-set, all-getD}
 use Rattle.numbers.proofs.CauseLaws.{clear-all, unless-zero}
-use Rattle.rules.specs.Entry.{Key, Record, recordOf, key, legal, fault, isMark, isStanding, standing, withdrawn, dayOk}
-use Rattle.rules.specs.Book.{isClosed, shutTo}
-use Rattle.rules.specs.DayFile.{isFile, items, itemCause, linesOf}
-use Rattle.rules.specs.Calls.{Frame, Change, post, withdraw, control, file, noRecord, standsAt, withStatus, postRefusal, withdrawRefusal, withdrawnAt, controlRefusal, fileRefusal, refusal, changed, onRecords}
+use Rattle.rules.specs.Entry.{Key, Record, recordOf, key, noRecord, withStatus, legal, fault, isMark, isStanding, standing, withdrawn, dayOk}
+use Rattle.rules.specs.Words.{Frame}
+use Rattle.rules.specs.Book.{isClosed, shutTo, postRefusal, standsAt, withdrawRefusal, withdrawnAt}
+use Rattle.rules.specs.Control.{controlRefusal}
+use Rattle.rules.specs.DayFile.{isFile, items, itemCause, linesOf, fileRefusal}
+use Rattle.rules.specs.Calls.{Change, post, withdraw, control, file, refusal, changed, onRecords}
 use Rattle.rules.proofs.BookLaws.{new-legal, restatus-legal, length-snoc}
 use Rattle.rules.proofs.CancelLaws.{controlled-length, controlled-legals, lines-legal}
 use Rattle.rules.proofs.LiftLaws.{Keeps}

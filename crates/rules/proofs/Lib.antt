@@ -4,6 +4,8 @@ pub mod BookLaws
 pub mod LiftLaws
 pub mod CancelLaws
 pub mod ChangeLaws
+pub mod CallLaws
+pub mod ReadLaws
 pub mod SumOrder
 pub mod CollateralOrder
 pub mod Limits

@@ -14,9 +14,9 @@ use Rattle.numbers.specs.Causes.{unless, orElse, ifDone}
 use Rattle.numbers.proofs.TestLaws.{bool-cases}
 use Rattle.numbers.proofs.CauseLaws.{unless-zero, else-split, done-else, done-zero}
 use Rattle.rules.specs.Entry.{Record, legal}
-use Rattle.rules.specs.Words.{kindAt, isBook, entries, entriesOk, countOf, coefficientOf, toleranceOf, roomIn, usedWords, laid}
+use Rattle.rules.specs.Words.{Frame, frameOf, kindAt, isBook, entries, entriesOk, countOf, coefficientOf, toleranceOf, roomIn, usedWords, laid}
 use Rattle.rules.specs.Machine.{Machine, leavesOf, figuresOf}
-use Rattle.rules.specs.Calls.{Frame, frameOf, lifted}
+use Rattle.rules.specs.Calls.{lifted}
 use Rattle.rules.proofs.WordLaws.{Fits, laid-book, room-words, book-facts, Agree, agree-drop, read-agree, entries-ok-agree}
 use Rattle.rules.proofs.BookLaws.{Stays, laid-stays}
 
@@ -35,14 +35,6 @@ pub record SameView (ws vs : List ℕ) : Type 0 where
   pub frame : isBook vs ≡ true → frameOf ws ≡ frameOf vs
   pub holds : isBook vs ≡ true → entries ws ≡ entries vs
 
--- a call that only reads: none of its figures where the words are no book, else a function of frame and records
-pub same-reading : {A : Type 0} {ws vs : List ℕ} → SameView ws vs → (read : Frame → List Record → A) (none : A) →
-    cond (isBook ws) (read (frameOf ws) (entries ws)) none ≡ cond (isBook vs) (read (frameOf vs) (entries vs)) none
-same-reading {vs = vs} s read none =
-    elim (bool-cases (isBook vs)) [
-      | inl b ↦ rw (s .is-book, b) (ap₂ read (s .frame b) (s .holds b))
-      | inr b ↦ rw (s .is-book, b)
-    ]
 
 -- words cut past those of a full book have the same view
 guarded : (p g x y : Bool) → (g ≡ true → x ≡ y) → p && g && x ≡ p && g && y

@@ -6,14 +6,13 @@ use lib.Dec.{eqb, leb, ltb}
 use lib.ListN.{length}
 use Rattle.numbers.specs.Sums.{count, countBelow}
 use Rattle.numbers.specs.Tests.{every, any}
-use Rattle.numbers.specs.Causes.{unless, firstOf, ifDone}
+use Rattle.numbers.specs.Causes.{unless, firstOf}
 use Rattle.calendar.specs.Calendar.{monthOf}
-use Rattle.rules.specs.Refusals.{notABook, badDay, dayClosed, noRoom}
-use Rattle.rules.specs.Entry.{Record, keyOf, recordOf, key, isStanding, isCancelled, isBilateral, standing, cancelled, partyOk, dayOk, lastParty, markType}
-use Rattle.rules.specs.Words.{isBook, entries, countOf, coefficientOf, toleranceOf, roomIn, laid}
+use Rattle.rules.specs.Refusals.{badDay, dayClosed, noRoom}
+use Rattle.rules.specs.Entry.{Record, keyOf, recordOf, key, withStatus, isStanding, isCancelled, isBilateral, standing, cancelled, partyOk, dayOk, lastParty, markType}
+use Rattle.rules.specs.Words.{Frame}
 use Rattle.rules.specs.Book.{isClosed}
 use Rattle.rules.specs.Balance.{dayAhead, balance, isDetected}
-use Rattle.rules.specs.declared.Controlled.{Controlled}
 
 -- a test of parties
 abbrev pub Parties : Type 0
@@ -29,7 +28,7 @@ isToCancel who d r =
     every (isStanding r ∷ eqb (key r .day) d ∷ isBilateral (key r) ∷ who (key r .party) ∷ [])
 
 unfoldable pub cancelOf : Parties → ℕ → List Record → List Record
-cancelOf who d rs = map (λ r. cond (isToCancel who d r) (recordOf (key r) cancelled (r .amount)) r) rs
+cancelOf who d rs = map (λ r. cond (isToCancel who d r) (withStatus cancelled r) r) rs
 
 -- a cancelled entry of this pair on another day of the same month
 abbrev pub isEarlierOrLater : ℕ → Record → Record → Bool
@@ -70,35 +69,19 @@ markOf d = recordOf (keyOf 0 d markType 0) standing 0
 unfoldable pub controlledRecords : ℕ → ℕ → ℕ → List Record → List Record
 controlledRecords R TM d rs = afterSecond R TM d rs ++ (markOf d ∷ [])
 
--- the call
-unfoldable pub controlCause : List ℕ → ℕ → ℕ
-controlCause ws d =
+-- why a control is refused
+unfoldable pub controlRefusal : Frame → List Record → ℕ → ℕ
+controlRefusal f rs d =
     firstOf
-    (unless (isBook ws) notABook
-    ∷ unless (dayOk d) badDay
-    ∷ unless (not (isClosed d (entries ws))) dayClosed
-    ∷ unless (ltb (countOf ws) (roomIn (length ws))) noRoom
+    (unless (dayOk d) badDay
+    ∷ unless (not (isClosed d rs)) dayClosed
+    ∷ unless (ltb (length rs) (f .room)) noRoom
     ∷ [])
 
+-- the answer counts parties detected in each pass and entries cancelled
 unfoldable pub detectedParties : Parties → ℕ
 detectedParties who = countBelow (lastParty + 1) who
 
 unfoldable pub cancelledEntries : ℕ → ℕ → ℕ → List Record → ℕ
 cancelledEntries R TM d rs =
     count (isToCancel (firstPass R TM d rs) d) rs + count (isToCancel (secondPass R TM d rs) d) (afterFirst R TM d rs)
-
-unfoldable pub controlAnswer : List ℕ → ℕ → Controlled
-controlAnswer ws d =
-    let done : ℕ → ℕ = λ n. ifDone (controlCause ws d) n 0 in
-    record {
-      answer = controlCause ws d;
-      first = done (detectedParties (firstPass (coefficientOf ws) (toleranceOf ws) d (entries ws)));
-      second = done (detectedParties (secondPass (coefficientOf ws) (toleranceOf ws) d (entries ws)));
-      cancelled = done (cancelledEntries (coefficientOf ws) (toleranceOf ws) d (entries ws));
-    }
-
-unfoldable pub controlWords : List ℕ → ℕ → List ℕ
-controlWords ws d =
-    ifDone (controlCause ws d)
-    (laid (coefficientOf ws) (toleranceOf ws) (controlledRecords (coefficientOf ws) (toleranceOf ws) d (entries ws)) ws)
-    ws

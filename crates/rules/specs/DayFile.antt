@@ -1,16 +1,15 @@
 -- The day file (01, 'Day file').
 use mathlib.Core.Bool.{Bool, true, false, not, _&&_, _||_}
-use mathlib.Core.List.{List, [], _∷_, _++_, map}
+use mathlib.Core.List.{List, [], _∷_, map}
 use Prim.Native.Nat.{ℕ, zero, suc, _+_, _*_, _/_, _%_}
 use lib.Dec.{eqb, leb, ltb}
 use lib.ListN.{length}
 use Rattle.numbers.specs.Tests.{every, any}
-use Rattle.numbers.specs.Causes.{unless, firstOf, ifDone}
-use Rattle.rules.specs.Refusals.{notABook, badFile, badParty, badDay, dayClosed, noRoom}
+use Rattle.numbers.specs.Causes.{unless, firstOf}
+use Rattle.rules.specs.Refusals.{badFile, badParty, badDay, dayClosed, noRoom}
 use Rattle.rules.specs.Entry.{Key, Record, keyOf, recordOf, fault, standing, partyOk, dayOk}
-use Rattle.rules.specs.Words.{kindOf, valueOf, isBook, entries, countOf, coefficientOf, toleranceOf, roomIn, laid}
+use Rattle.rules.specs.Words.{Frame, kindOf, valueOf}
 use Rattle.rules.specs.Book.{shutTo}
-use Rattle.rules.specs.declared.FileRead.{FileRead}
 
 -- little-endian words; bytes that make no whole word are left out
 unfoldable pub wordsOf : List ℕ → List ℕ
@@ -92,24 +91,14 @@ linesOf [] = []
 linesOf (line k a ∷ is) = recordOf k standing a ∷ linesOf is
 linesOf (emptyBlock p d ∷ is) = linesOf is
 
--- 1 and 2 first, then in file order the first faulty line or empty block; 9 if the lines do not fit
-unfoldable pub fileCause : List ℕ → List ℕ → ℕ
-fileCause ws bs =
+-- 2 first, then in file order the first faulty line or empty block; 9 if the lines do not fit
+unfoldable pub fileRefusal : Frame → List Record → List ℕ → ℕ
+fileRefusal f rs bs =
     firstOf
-    (unless (isBook ws) notABook
-    ∷ unless (isFile bs) badFile
-    ∷ firstOf (map (itemCause (entries ws)) (items bs))
-    ∷ unless (leb (countOf ws + length (linesOf (items bs))) (roomIn (length ws))) noRoom
+    (unless (isFile bs) badFile
+    ∷ firstOf (map (itemCause rs) (items bs))
+    ∷ unless (leb (length rs + length (linesOf (items bs))) (f .room)) noRoom
     ∷ [])
-
--- all lines are posted or none, and the answer counts those posted
-unfoldable pub fileAnswer : List ℕ → List ℕ → FileRead
-fileAnswer ws bs =
-    record { answer = fileCause ws bs; posted = ifDone (fileCause ws bs) (length (linesOf (items bs))) 0 }
-
-unfoldable pub fileWords : List ℕ → List ℕ → List ℕ
-fileWords ws bs =
-    ifDone (fileCause ws bs) (laid (coefficientOf ws) (toleranceOf ws) (entries ws ++ linesOf (items bs)) ws) ws
 
 -- the parties and days that a file names: blocks, and counterparties above 0
 unfoldable pub itemNames : ℕ → ℕ → Item → Bool

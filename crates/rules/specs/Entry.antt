@@ -86,6 +86,14 @@ isStanding r = eqb (r .label .status) standing
 abbrev pub isCancelled : Record → Bool
 isCancelled r = eqb (r .label .status) cancelled
 
+-- what is read past the last record of a list; it isn't standing
+abbrev pub noRecord : Record
+noRecord = recordOf (keyOf 0 0 0 0) withdrawn 0
+
+-- a record with another status
+abbrev pub withStatus : ℕ → Record → Record
+withStatus s r = recordOf (key r) s (r .amount)
+
 -- checks 3 to 7 of a post
 abbrev pub partyOk : ℕ → Bool
 partyOk p = within 1 lastParty p

@@ -2,6 +2,7 @@ pub mod Refusals
 pub mod Entry
 pub mod Words
 pub mod Book
+pub mod Stores
 pub mod Balance
 pub mod Month
 pub mod Collateral

@@ -98,6 +98,15 @@ isBook ws =
 unfoldable pub entries : List ℕ → List Record
 entries ws = readEntries (countOf ws) (drop 3 ws)
 
+-- what of a book is not its records: R, TM, and for how many entries the slice has room
+pub record Frame : Type 0 where
+  pub coefficient : ℕ
+  pub tolerance : ℕ
+  pub room : ℕ
+
+abbrev pub frameOf : List ℕ → Frame
+frameOf ws = record { coefficient = coefficientOf ws; tolerance = toleranceOf ws; room = roomIn (length ws) }
+
 -- the words that a book of these records uses, and the book laid over a lent slice
 unfoldable pub encodeAll : List Record → List ℕ
 encodeAll [] = []
