@@ -15,10 +15,9 @@ use Rattle.numbers.specs.Causes.{unless}
 use Rattle.numbers.proofs.TestLaws.{all-set, and-split, and-join, or-cases, or-right, all-append, all-getD}
 use Rattle.numbers.proofs.CauseLaws.{clear-all, unless-zero, done-else}
 use Rattle.numbers.proofs.ListLaws.{drop-past}
-use Rattle.rules.specs.Entry.{Key, Record, keyOf, recordOf, key, legal, fault, statusOk, markOk, isMark, isStanding, isBilateral, standing, withdrawn, cancelled, markType}
+use Rattle.rules.specs.Entry.{Key, Record, keyOf, recordOf, key, noRecord, legal, fault, statusOk, markOk, isMark, isStanding, isBilateral, standing, withdrawn, cancelled, markType}
 use Rattle.rules.specs.Words.{word, typeBits, encode, encodeAll, usedWords, laid, isBook, entries, countOf, coefficientOf, toleranceOf, roomIn}
 use Rattle.rules.specs.Book.{openCause, openWords, postCause, posted, postWords, storedAt, entryAt, raised, restatused, withdrawCause, withdrawWords, isStandingAt, shutTo}
-use Rattle.rules.specs.Ledger.{noRecord}
 use Rattle.rules.proofs.WordLaws.{Fits, laid-book, room-words, length-used, laid-past, encode-all-append, read-at, book-facts, book-fits, book-laid}
 
 -- opening

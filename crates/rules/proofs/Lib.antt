@@ -1,10 +1,13 @@
 -- What follows from the definitions of specs/: laws, the worked figures and the order of two books.
 pub mod WordLaws
 pub mod BookLaws
+pub mod EachLaws
 pub mod SumOrder
 pub mod CollateralOrder
 pub mod Limits
+pub mod AskedLaws
 pub mod Machine
+pub mod LedgerLaws
 pub mod Shows
 pub mod TwinCalls
 pub mod TwoBooks

@@ -86,6 +86,10 @@ isStanding r = eqb (r .label .status) standing
 abbrev pub isCancelled : Record → Bool
 isCancelled r = eqb (r .label .status) cancelled
 
+-- what is read past the last record of a list; it isn't standing
+abbrev pub noRecord : Record
+noRecord = recordOf (keyOf 0 0 0 0) withdrawn 0
+
 -- checks 3 to 7 of a post
 abbrev pub partyOk : ℕ → Bool
 partyOk p = within 1 lastParty p
