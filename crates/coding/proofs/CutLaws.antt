@@ -13,9 +13,8 @@ use Rattle.numbers.specs.Tests.{every}
 use Rattle.numbers.specs.Causes.{unless, firstOf, ifDone}
 use Rattle.numbers.proofs.TestLaws.{bool-cases}
 use Rattle.numbers.proofs.CauseLaws.{clear-all, unless-zero}
-use Rattle.rules.specs.Entry.{Key, Record, recordOf, standing, withdrawn, dayOk}
+use Rattle.rules.specs.Entry.{Key, Record, noRecord, recordOf, standing, withdrawn, dayOk}
 use Rattle.rules.specs.Words.{word, kindAt, roomIn, countOf, coefficientOf, toleranceOf, isBook, entries, entriesOk, usedWords, laid}
-use Rattle.rules.specs.Ledger.{noRecord}
 use Rattle.rules.specs.Book.{isClosed, entryAt, openCause, openWords, postCause, posted, postAnswer, postWords, restatused, withdrawCause, withdrawWords, countCause, countAnswer, readCause, readAnswer}
 use Rattle.rules.specs.Balance.{Volume, partyDayCause, balanceAnswer, tallyAnswer}
 use Rattle.rules.specs.Collateral.{collateralCause, collateralAnswer}

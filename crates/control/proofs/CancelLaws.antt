@@ -12,10 +12,9 @@ use Rattle.numbers.specs.Sums.{total, count}
 use Rattle.numbers.specs.Tests.{all}
 use Rattle.numbers.proofs.SumLaws.{total-append, count-le-length}
 use Rattle.numbers.proofs.TestLaws.{and-split, and-join, all-getD}
-use Rattle.rules.specs.Entry.{Record, key, legal, cancelled}
+use Rattle.rules.specs.Entry.{Record, noRecord, key, legal, cancelled}
 use Rattle.rules.specs.Words.{isBook, entries, countOf, coefficientOf, toleranceOf, decode, entryOk, laid}
 use Rattle.rules.specs.Book.{entryAt, readOf, restatused, placeOf}
-use Rattle.rules.specs.Ledger.{noRecord}
 use Rattle.rules.specs.Control.{Parties, isToCancel, cancelOf}
 use Rattle.rules.specs.declared.EntryRead.{EntryRead}
 use Rattle.rules.proofs.WordLaws.{Fits, IsLaid, laid-book, book-facts, book-laid, legal-bounds}

@@ -16,10 +16,9 @@ use Rattle.numbers.specs.Causes.{unless}
 use Rattle.numbers.proofs.TestLaws.{bool-cases, and-split, and-join, or-right, every-holds, all-append, any-append}
 use Rattle.numbers.proofs.SumLaws.{total-append, total-map, total-cong}
 use Rattle.numbers.proofs.CauseLaws.{clear-all, unless-zero, done-else}
-use Rattle.rules.specs.Entry.{Record, key, recordOf, legal, isStanding, isCancelled, isBilateral, isMark, cancelled, dayOk}
+use Rattle.rules.specs.Entry.{Record, noRecord, key, recordOf, legal, isStanding, isCancelled, isBilateral, isMark, cancelled, dayOk}
 use Rattle.rules.specs.Words.{isBook, entries, countOf, coefficientOf, toleranceOf, roomIn, usedWords, laid}
 use Rattle.rules.specs.Book.{isClosed, isMarkOf, entryAt}
-use Rattle.rules.specs.Ledger.{noRecord}
 use Rattle.rules.specs.Balance.{Volume, counted, countedTo, sumOf, boughtBy, tallyOf, balanceOf, balance, volumeTypes}
 use Rattle.rules.specs.Compared.{Each}
 use Rattle.rules.specs.Control.{Parties, isToCancel, cancelOf, firstPass, secondPass, afterFirst, afterSecond, markOf, controlledRecords, controlCause, cancelledEntries, controlWords}

@@ -8,10 +8,9 @@ use lib.ListN.{length, getD, take, drop, length-take}
 use lib.Seq.{take-all}
 use Rattle.numbers.specs.Tests.{all}
 use Rattle.numbers.proofs.TestLaws.{all-getD, all-take}
-use Rattle.rules.specs.Entry.{Record, legal}
+use Rattle.rules.specs.Entry.{Record, noRecord, legal}
 use Rattle.rules.specs.Words.{isBook, entries, countOf, decode}
 use Rattle.rules.specs.Book.{entryAt, readOf}
-use Rattle.rules.specs.Ledger.{noRecord}
 use Rattle.rules.specs.declared.EntryRead.{EntryRead}
 use Rattle.rules.proofs.WordLaws.{book-facts}
 use Rattle.rules.proofs.BookLaws.{entry-at}

@@ -15,8 +15,7 @@ use Rattle.numbers.specs.Sums.{total}
 use Rattle.numbers.specs.Tests.{every, all, allBelow}
 use Rattle.numbers.proofs.TestLaws.{bool-cases, and-split, and-join, every-holds, holds-every, allBelow-at}
 use Rattle.numbers.proofs.ListLaws.{getD-blank, getD-map}
-use Rattle.rules.specs.Entry.{Record, key, legal, isStanding, isVolume, isExport, isMark}
-use Rattle.rules.specs.Ledger.{noRecord}
+use Rattle.rules.specs.Entry.{Record, noRecord, key, legal, isStanding, isVolume, isExport, isMark}
 use Rattle.rules.specs.Balance.{counted, countedTo, sumOf, boughtBy, tallyOf, volumeTypes}
 use Rattle.rules.proofs.WordLaws.{Faultless, no-fault, within-true}
 use Rattle.rules.proofs.BookLaws.{legal-fault}

@@ -8,7 +8,7 @@ use native.Mathlib.Nat.{le-refl, add-le-add, eq-zero-or-pos, mul-le-mul-left, mu
 use native.Mathlib.Omega.{arith}
 use lib.Dec.{eqb, ltb}
 use lib.IntN.{natAbs}
-use lib.ListN.{length, getD, take}
+use lib.ListN.{length, take}
 use borrow.Author.Tests.{lt-ltb}
 use Rattle.numbers.specs.Signed.{isNegative, lower}
 use Rattle.numbers.proofs.SumLaws.{sum-le}
@@ -19,9 +19,11 @@ use Rattle.rules.specs.Balance.{sumOf}
 use Rattle.rules.specs.Month.{Tables, monthAnswer, monthFigures, weightedPrices, weights, aosmf, aedm}
 use Rattle.rules.specs.Collateral.{Money, isActive, debtOf, debts, moneyOf, tradingDays, debt, quarters, margin, trading, highestPrice, lowestVolume, imbalanceOver, imbalance, risk, yek, totalOf, collateralOf}
 use Rattle.rules.specs.CaseFigures.{withMonths}
-use Rattle.rules.specs.Compared.{Each, LowerMoney, Cheaper, LowerCase}
+use Rattle.rules.specs.Compared.{Each, Sum, IsMoney, LowerMoney, Cheaper, LowerCase}
 use Rattle.rules.specs.declared.Month.{Month}
 use Rattle.rules.specs.declared.Case.{Case}
+use Rattle.rules.proofs.EachLaws.{each-length, each-getD, each-take}
+use Rattle.rules.proofs.SumOrder.{sum-of-money}
 
 cond-le : (b : Bool) {x y : ℕ} → x ≤ y → cond b x 0 ≤ cond b y 0
 cond-le true h = h
@@ -67,34 +69,31 @@ module _ (f g : Money)
       )
       (add-le-add (lower-debt-of d _ _) (lower-debts n d _ _))
 
+-- the sums that the claim compares
+module _ (p : ℕ) (rs ss : List Record) (m : LowerMoney p rs ss) where
+  sums : (d t : ℕ) → 17 ≤ t → Sum (IsMoney p d t) rs (sumOf p d t rs) × Sum (IsMoney p d t) ss (sumOf p d t ss)
+  sums d t h = (sum-of-money p d t h rs, sum-of-money p d t h ss)
+
+  lower-purchases : (d t : ℕ) → (t ≡ 17) ⊎ (t ≡ 19) → sumOf p d t ss ≤ sumOf p d t rs
+  lower-purchases d t e =
+      let s = sums d t (elim e [ inl h ↦ omega arith | inr h ↦ omega arith ]) in
+      m .purchases d t _ _ e (s .0) (s .1)
+
+  higher-sales : (d t : ℕ) → (t ≡ 18) ⊎ (t ≡ 20) → sumOf p d t rs ≤ sumOf p d t ss
+  higher-sales d t e =
+      let s = sums d t (elim e [ inl h ↦ omega arith | inr h ↦ omega arith ]) in
+      m .sales d t _ _ e (s .0) (s .1)
+
+  equal-zeros : (d t : ℕ) → 17 ≤ t → t ≤ 20 → (sumOf p d t rs ≡ 0) ↔ (sumOf p d t ss ≡ 0)
+  equal-zeros d t low high = let s = sums d t low in m .zeros d t _ _ low high (s .0) (s .1)
+
 pub lower-trading : (c : Case) (rs ss : List Record) → LowerMoney (c .asked .party) rs ss → trading c ss ≤ trading c rs
 unfolding trading debt
 lower-trading c rs ss m =
+    let p = c .asked .party in
     let D : debt c ss ≤ debt c rs =
-    lower-debts (moneyOf (c .asked .party) rs) (moneyOf (c .asked .party) ss) (m .purchases) (m .sales) (m .zeros) 30 _ _ _ in
+    lower-debts (moneyOf p rs) (moneyOf p ss) (lower-purchases p rs ss m) (higher-sales p rs ss m) (equal-zeros p rs ss m) 30 _ _ _ in
     round-up-mono 80 (mul-le-mul-right (quarters c) (mul-le-mul-right (20 + c .trading .defaults) D))
-
--- lists place by place
-module _ {A : Type 0} (P : A → A → Type 0) where
-  each-length : (xs ys : List A) → Each P xs ys → length ys ≡ length xs
-  each-length [] [] h = refl
-  each-length [] (y ∷ ys) h = absurd h
-  each-length (x ∷ xs) [] h = absurd h
-  each-length (x ∷ xs) (y ∷ ys) h = ap suc (each-length xs ys (h .1))
-
-  each-getD : (d : A) → P d d → (xs ys : List A) → Each P xs ys → (i : ℕ) → P (getD xs i d) (getD ys i d)
-  each-getD d p [] [] h i = p
-  each-getD d p [] (y ∷ ys) h i = absurd h
-  each-getD d p (x ∷ xs) [] h i = absurd h
-  each-getD d p (x ∷ xs) (y ∷ ys) h zero = h .0
-  each-getD d p (x ∷ xs) (y ∷ ys) h (suc i) = each-getD d p xs ys (h .1) i
-
-  each-take : (k : ℕ) (xs ys : List A) → Each P xs ys → Each P (take k xs) (take k ys)
-  each-take zero xs ys h = tt
-  each-take (suc k) [] [] h = tt
-  each-take (suc k) [] (y ∷ ys) h = absurd h
-  each-take (suc k) (x ∷ xs) [] h = absurd h
-  each-take (suc k) (x ∷ xs) (y ∷ ys) h = (h .0, each-take k xs ys (h .1))
 
 -- the tables with other prices
 abbrev pub withPrices : Tables → List ℕ → Tables

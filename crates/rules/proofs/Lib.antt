@@ -6,10 +6,13 @@ pub mod CancelLaws
 pub mod ChangeLaws
 pub mod CallLaws
 pub mod ReadLaws
+pub mod EachLaws
 pub mod SumOrder
 pub mod CollateralOrder
 pub mod Limits
+pub mod AskedLaws
 pub mod Machine
+pub mod LedgerLaws
 pub mod Shows
 pub mod TwinCalls
 pub mod TwoBooks

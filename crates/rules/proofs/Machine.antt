@@ -62,7 +62,3 @@ module _ {S S′ C F A : Type 0} (pack : ℕ → F → A) (none : F) (m : Machin
   same-states (c ∷ cs) [] each s s′ r = absurd each
   same-states (c ∷ cs) (d ∷ ds) each s s′ r =
       same-states cs ds (each .1) (leavesOf m s c) (leavesOf m′ s′ d) (same-state s s′ c d r (each .0))
-
-pub each-equal : {C : Type 0} (cs : List C) → Each (λ c d. c ≡ d) cs cs
-each-equal [] = tt
-each-equal (c ∷ cs) = (refl, each-equal cs)

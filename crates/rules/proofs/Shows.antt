@@ -1,24 +1,25 @@
 -- A book against its ledger: the same calls are answered alike, and the book's words show the ledger's records. Assumes nothing.
-use mathlib.Core.Path.{_≡_, refl, sym, ap, ap₂, subst, _∙_, fun-ext}
+use mathlib.Core.Path.{_≡_, refl, sym, ap, subst, _∙_}
 use mathlib.Core.Logic.{inl, inr}
-use mathlib.Core.Bool.{Bool, true, false, not, _&&_, and-false, false≢true}
-use mathlib.Core.List.{List, [], _∷_, _++_}
-use Prim.Native.Nat.{ℕ, zero, suc, _+_, _≤_, _<_}
+use mathlib.Core.Bool.{Bool, true, false, not, _&&_, and-false}
+use mathlib.Core.List.{List, [], _∷_}
+use Prim.Native.Nat.{ℕ, _≤_}
 use native.Mathlib.Omega.{arith}
 use lib.Dec.{eqb, leb, ltb}
-use lib.ListN.{length, getD, set, length-set, length-append}
-use borrow.Author.Tests.{eqb-true, eq-eqb, ne-eqb, ltb-true, ltb-false, lt-ltb, le-ltb}
+use lib.ListN.{length, getD, length-set, length-append}
+use borrow.Author.Tests.{eqb-true, ne-eqb, ltb-true}
 use Rattle.numbers.specs.Tests.{all, any}
-use Rattle.numbers.specs.Causes.{unless, firstOf, ifDone}
+use Rattle.numbers.specs.Causes.{unless, firstOf}
 use Rattle.numbers.proofs.TestLaws.{all-set, bool-cases, and-split, all-append, all-getD}
 use Rattle.numbers.proofs.CauseLaws.{clear-all, unless-zero, done-same}
-use Rattle.rules.specs.Entry.{Key, Record, recordOf, key, fault, statusOk, legal, isMark, isStanding, isBilateral, standing, withdrawn}
-use Rattle.rules.specs.Words.{isBook, entries, countOf, roomIn, laid}
-use Rattle.rules.specs.Book.{isMarkOf, isClosed, shutTo, postCause, posted, postAnswer, postWords, entryAt, withdrawCause, restatused, withdrawWords}
-use Rattle.rules.specs.Ledger.{Call, post, withdraw, noRecord, callAnswer, callWords, ledgerCause, ledgerNumber, ledgerDone, ledgerAnswer, ledgerLeaves}
+use Rattle.rules.specs.Entry.{Key, Record, recordOf, key, noRecord, fault, statusOk, legal, isMark, isStanding, isBilateral, standing, withdrawn}
+use Rattle.rules.specs.Words.{countOf, roomIn, laid}
+use Rattle.rules.specs.Book.{isMarkOf, isClosed, shutTo, postCause, posted, postAnswer, postWords, withdrawCause, restatused, withdrawWords}
+use Rattle.rules.specs.Ledger.{Call, post, withdraw, callAnswer, callWords, ledgerCause, ledgerNumber, ledgerDone}
 use Rattle.rules.specs.declared.Posted.{Posted}
 use Rattle.rules.proofs.WordLaws.{Fits, laid-book, no-fault}
 use Rattle.rules.proofs.BookLaws.{posted-laid, entry-at-laid, restatused-laid}
+use Rattle.rules.proofs.LedgerLaws.{same-withdrawal, post-causes, withdraw-causes}
 use Rattle.rules.proofs.Machine.{Machine, answerOf, leavesOf, Agree}
 
 -- both machines; the book's is made of the functions that the contracts cite
@@ -94,16 +95,17 @@ module _ (base : List ℕ) (R TM : ℕ) (long : 3 ≤ length base) (low : R ≤ 
 
   post-cause : (rs : List Record) → Fits R TM rs base → all isKept rs ≡ true → (k : Key) (a : ℕ) →
       postCause (laid R TM rs base) k a ≡ ledgerCause (length base) rs (post k a)
-  unfolding postCause ledgerCause
+  unfolding postCause
   post-cause rs f e k a =
       let l = laid-book f in
-      rw (l .is-book, l .holds, l .count, l .long, never-shut k rs e)
+      rw (l .is-book, l .holds, l .count, l .long, never-shut k rs e, post-causes (length base) rs k a)
 
   withdraw-cause : (rs : List Record) → Fits R TM rs base → all isKept rs ≡ true → (n : ℕ) →
       withdrawCause (laid R TM rs base) n ≡ ledgerCause (length base) rs (withdraw n)
-  unfolding withdrawCause ledgerCause
+  unfolding withdrawCause
   withdraw-cause rs f e n =
       let l = laid-book f in
+      rw (withdraw-causes (length base) rs n)
       elim (bool-cases (ltb n (length rs))) [
         | inl q ↦
             let h = ltb-true n (length rs) q in
@@ -120,13 +122,13 @@ module _ (base : List ℕ) (R TM : ℕ) (long : 3 ≤ length base) (low : R ≤ 
   -- a call on a book and on its ledger
   module _ (rs : List Record) (f : Fits R TM rs base) (e : all isKept rs ≡ true) where
     post-agrees : (k : Key) (a : ℕ) → Agree bookMachine (ledgerMachine (length base)) (Shows base R TM) (laid R TM rs base) rs (post k a) (post k a)
-    unfolding ledgerCause ledgerDone all
+    unfolding ledgerDone all
     post-agrees k a =
         record {
           causes = post-cause rs f e k a;
           figures = λ z. laid-book f .count;
           next = λ z.
-              let c = clear-all (fault k a ∷ unless (ltb (length rs) (roomIn (length base))) 9 ∷ []) (sym (post-cause rs f e k a) ∙ z) in
+              let c = clear-all (fault k a ∷ unless (ltb (length rs) (roomIn (length base))) 9 ∷ []) (sym (post-causes (length base) rs k a) ∙ sym (post-cause rs f e k a) ∙ z) in
               let h = ltb-true (length rs) (roomIn (length base)) (unless-zero _ 8 (c .1 .0)) in
               record {
                 words = posted-laid f h k a;
@@ -136,21 +138,22 @@ module _ (base : List ℕ) (R TM : ℕ) (long : 3 ≤ length base) (low : R ≤ 
         }
 
     withdraw-agrees : (n : ℕ) → Agree bookMachine (ledgerMachine (length base)) (Shows base R TM) (laid R TM rs base) rs (withdraw n) (withdraw n)
-    unfolding ledgerCause ledgerDone
+    unfolding ledgerDone
     withdraw-agrees n =
         record {
           causes = withdraw-cause rs f e n;
           figures = λ z. refl;
           next = λ z.
               let r = getD rs n noRecord in
-              let c = clear-all (unless (ltb n (length rs) && isStanding r) 10 ∷ []) (sym (withdraw-cause rs f e n) ∙ z) in
+              let c = clear-all (unless (ltb n (length rs) && isStanding r) 10 ∷ []) (sym (withdraw-causes (length base) rs n) ∙ sym (withdraw-cause rs f e n) ∙ z) in
               let t = and-split (ltb n (length rs)) (isStanding r) (unless-zero _ 9 (c .0)) in
               let h = ltb-true n (length rs) (t .0) in
-              record {
+              rw (same-withdrawal rs n)
+              (record {
                 words = restatused-laid withdrawn R TM rs base n h (eqb-true _ _ (t .1));
                 kept = all-set isKept rs n (recordOf (key r) withdrawn (r .amount)) e (rw (kept-fault r (all-getD isKept rs e n noRecord h)));
                 room = rw (length-set rs n (recordOf (key r) withdrawn (r .amount))) (omega (arith, f .room));
-              };
+              });
         }
 
     agrees : (c : Call) → Agree bookMachine (ledgerMachine (length base)) (Shows base R TM) (laid R TM rs base) rs c c

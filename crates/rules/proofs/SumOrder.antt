@@ -1,14 +1,14 @@
 -- The order of sums and balances over two lists of records alike but for amounts (01, 'Demand 3 and its ledger'). Assumes nothing.
-use mathlib.Core.Path.{_≡_, refl, ap₂}
+use mathlib.Core.Path.{_≡_, refl, sym, ap₂, _∙_}
 use mathlib.Core.Logic.{inl, inr}
-use mathlib.Core.Bool.{Bool, true, not, cond}
-use mathlib.Core.List.{List, [], _∷_, map, head-eq-of-cons-eq, tail-eq-of-cons-eq}
+use mathlib.Core.Bool.{Bool, true, not, cond, false≢true}
+use mathlib.Core.List.{List, [], _∷_}
 use Prim.Native.Nat.{ℕ, _+_, _*_, max, _≤_, zero-le}
-use native.Mathlib.Nat.{add-le-add, mul-le-mul-left, mul-le-mul-right, max-le, le-max-left, le-max-right, le-trans}
+use native.Mathlib.Nat.{zero-add, add-le-add, mul-le-mul-left, mul-le-mul-right, max-le, le-max-left, le-max-right, le-trans}
 use native.Mathlib.Omega.{arith}
 use lib.Dec.{eqb}
 use lib.Signed.{_≤ℤ_}
-use borrow.Author.Tests.{eqb-true}
+use borrow.Author.Tests.{eqb-true, eq-eqb, ne-eqb}
 use Rattle.numbers.specs.Sums.{total}
 use Rattle.numbers.specs.Tests.{every, all}
 use Rattle.numbers.proofs.TestLaws.{bool-cases, every-holds}
@@ -16,12 +16,12 @@ use Rattle.numbers.proofs.SignedLaws.{sub-mono}
 use Rattle.numbers.proofs.SumLaws.{total-le-where}
 use Rattle.rules.specs.Entry.{Label, Record, key, isExport, bilateral, standing, within}
 use Rattle.rules.specs.Balance.{Volume, dayAhead, delivery, counted, countedTo, sumOf, boughtBy, tallyOf, acquired, saleTypes, coverTypes, saleSide, coverSide, balanceOf, balance}
-use Rattle.rules.specs.Compared.{Each, NoWorse, SameWhereNamed}
+use Rattle.rules.specs.Compared.{Each, SameLabel, NoWorse, SameWhereNamed, Sum, none, added, passed, IsMoney}
 use Rattle.rules.proofs.WordLaws.{within-true}
 
 -- records of equal number have equal keys and statuses
 abbrev pub Twins : List Record → List Record → Type 0
-Twins rs ss = map (λ r. r .label) rs ≡ map (λ r. r .label) ss
+Twins rs ss = Each SameLabel rs ss
 
 -- the amount of a record whose label passes a test
 abbrev pub picked : (Label → Bool) → Record → ℕ
@@ -58,8 +58,8 @@ module _ {R : ℕ → ℕ → Type 0} (add : Additive R) (f : Label → Bool) (P
   sums-related (r ∷ rs) [] tw each = absurd each
   sums-related (r ∷ rs) (s ∷ ss) tw each =
       add .more
-      (picked-related r s (head-eq-of-cons-eq tw) (each .0))
-      (sums-related rs ss (tail-eq-of-cons-eq tw) (each .1))
+      (picked-related r s (tw .0) (each .0))
+      (sums-related rs ss (tw .1) (each .1))
 
 -- the tests of `counted` and `countedTo`
 abbrev pub forTests : ℕ → ℕ → ℕ → Label → List Bool
@@ -207,3 +207,35 @@ module _ (p : ℕ) (rs ss : List Record) (tw : Twins rs ss) (each : Each (SameWh
   pub equal-balance : (v : Volume) (R TM d : ℕ) → balance v R TM p d rs ≡ balance v R TM p d ss
   unfolding balance
   equal-balance v R TM d = ap₂ (balanceOf v R TM) (same-tally d) (same-bought d)
+
+-- the sums of money of the claim are the definitions' sums
+money-tests : (p d t : ℕ) (r : Record) → 17 ≤ t → IsMoney p d t r → every (forTests p d t (r .label)) ≡ true
+money-tests p d t r h m =
+    rw (
+      eq-eqb _ _ (m .0),
+      eq-eqb _ _ (m .1),
+      eq-eqb _ _ (m .2),
+      eq-eqb _ _ (m .3),
+      ne-eqb (key r .type) 6 λ e. omega (arith, m .3),
+    )
+
+pub sum-of-money : (p d t : ℕ) → 17 ≤ t → (rs : List Record) → Sum (IsMoney p d t) rs (sumOf p d t rs)
+unfolding sumOf total counted
+sum-of-money p d t h [] = none
+sum-of-money p d t h (r ∷ rs) =
+    elim (bool-cases (every (forTests p d t (r .label)))) [
+      | inl e ↦
+          let c = counts-for p d t (r .label) e in
+          rw e (added (c .standing, c .party, c .day, c .type) (sum-of-money p d t h rs))
+      | inr e ↦ rw (e, zero-add) (passed (λ m. false≢true (sym e ∙ money-tests p d t r h m)) (sum-of-money p d t h rs))
+    ]
+
+one-sum : {P : Record → Type 0} {rs : List Record} {m n : ℕ} → Sum P rs m → Sum P rs n → m ≡ n
+one-sum none none = refl
+one-sum (added p x) (added q y) = ap₂ _+_ refl (one-sum x y)
+one-sum (added p x) (passed q y) = absurd (q p)
+one-sum (passed p x) (added q y) = absurd (p q)
+one-sum (passed p x) (passed q y) = one-sum x y
+
+pub money-is-sum : (p d t : ℕ) → 17 ≤ t → (rs : List Record) (n : ℕ) → Sum (IsMoney p d t) rs n → n ≡ sumOf p d t rs
+money-is-sum p d t h rs n s = one-sum s (sum-of-money p d t h rs)

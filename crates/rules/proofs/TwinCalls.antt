@@ -1,68 +1,70 @@
 -- A ledger against a ledger: lists alike but for legal amounts are answered alike, and leave twins. Assumes nothing.
-use mathlib.Core.Path.{_≡_, refl, sym, ap, _∙_}
+use mathlib.Core.Path.{_≡_, refl, sym, ap}
 use mathlib.Core.Logic.{inl, inr}
-use mathlib.Core.Bool.{Bool, true, false, _&&_}
-use mathlib.Core.List.{List, [], _∷_, _++_, map}
-use Prim.Native.Nat.{ℕ, zero, suc, _≤_, _<_}
+use mathlib.Core.Bool.{false, _&&_}
+use mathlib.Core.List.{List, [], _∷_}
+use Prim.Native.Nat.{ℕ, zero, suc}
 use native.Mathlib.Omega.{arith}
-use lib.Dec.{leb, ltb}
-use lib.ListN.{length, getD, set, length-map, List·getD-map}
-use borrow.Author.Tests.{le-leb, lt-leb}
-use Rattle.rules.specs.Entry.{Key, Label, Record, recordOf, key, fault, amountLimit, standing, withdrawn}
-use Rattle.rules.specs.Ledger.{Call, post, withdraw, noRecord, ledgerCause, ledgerDone}
-use Rattle.rules.specs.Compared.{InRange, AlikeCalls, equal, amounts}
+use lib.Dec.{eqb, leb, ltb}
+use lib.ListN.{length}
+use borrow.Author.Tests.{le-leb, lt-leb, le-ltb}
+use Rattle.rules.specs.Entry.{Key, Record, recordOf, key}
+use Rattle.rules.specs.Ledger.{Call, post, withdraw, ledgerFault, standsAt, withdrawnAt, ledgerCause, ledgerDone}
+use Rattle.rules.specs.Compared.{InRange, AlikeCalls, equal, amounts, SameLabel}
+use Rattle.rules.proofs.EachLaws.{each-length, each-snoc}
 use Rattle.rules.proofs.SumOrder.{Twins}
 use Rattle.rules.proofs.Machine.{Agree}
 use Rattle.rules.proofs.Shows.{ledgerMachine}
 
-abbrev labels : List Record → List Label
-labels rs = map (λ r. r .label) rs
-
-labels-append : (rs : List Record) (r : Record) → labels (rs ++ (r ∷ [])) ≡ labels rs ++ (r .label ∷ [])
-labels-append [] r = refl
-labels-append (s ∷ rs) r = ap (λ l. s .label ∷ l) (labels-append rs r)
-
-labels-set : (rs : List Record) (n : ℕ) (r : Record) → labels (set rs n r) ≡ set (labels rs) n (r .label)
-labels-set [] n r = refl
-labels-set (s ∷ rs) zero r = refl
-labels-set (s ∷ rs) (suc n) r = ap (λ l. s .label ∷ l) (labels-set rs n r)
-
 -- an amount in range for its type passes check 7
-in-limit : (t a : ℕ) → InRange t a → leb a (amountLimit t) ≡ true
-unfolding amountLimit
-in-limit t a (inl h) = rw (lt-leb 17 t (omega arith)) (le-leb a 1000000000 (h .2))
-in-limit t a (inr h) = rw (le-leb 17 t (h .0), le-leb t 20 (h .1)) (le-leb a 1000000000000 (h .2))
+in-range : (t a : ℕ) → InRange t a → (leb t 16 && ltb 1000000000 a ≡ false) × (leb 17 t && ltb 1000000000000 a ≡ false)
+in-range t a (inl h) = (rw (le-leb t 16 (h .1)) (le-ltb 1000000000 a (h .2)), rw (lt-leb 17 t (omega arith)))
+in-range t a (inr h) = (rw (lt-leb t 16 (omega arith)), rw (le-leb 17 t (h .0)) (le-ltb 1000000000000 a (h .2)))
 
-same-fault : (k : Key) (a b : ℕ) → InRange (k .type) a → InRange (k .type) b → fault k a ≡ fault k b
-unfolding fault
-same-fault k a b h g = rw (in-limit (k .type) a h, in-limit (k .type) b g)
+same-fault : (k : Key) (a b : ℕ) → InRange (k .type) a → InRange (k .type) b → ledgerFault k a ≡ ledgerFault k b
+unfolding ledgerFault
+same-fault k a b h g =
+    let x = in-range (k .type) a h in
+    let y = in-range (k .type) b g in
+    rw (x .0, x .1, y .0, y .1)
+
+-- a withdrawal looks at keys and statuses only
+same-standing : (rs ss : List Record) → Twins rs ss → (n : ℕ) → standsAt rs n ≡ standsAt ss n
+unfolding standsAt
+same-standing [] [] tw n = refl
+same-standing [] (s ∷ ss) tw n = absurd tw
+same-standing (r ∷ rs) [] tw n = absurd tw
+same-standing (r ∷ rs) (s ∷ ss) tw zero = ap (λ l. eqb (l .status) 0) (tw .0)
+same-standing (r ∷ rs) (s ∷ ss) tw (suc n) = same-standing rs ss (tw .1) n
+
+twins-withdrawn : (rs ss : List Record) → Twins rs ss → (n : ℕ) → Twins (withdrawnAt rs n) (withdrawnAt ss n)
+unfolding withdrawnAt
+twins-withdrawn [] [] tw n = tt
+twins-withdrawn [] (s ∷ ss) tw n = absurd tw
+twins-withdrawn (r ∷ rs) [] tw n = absurd tw
+twins-withdrawn (r ∷ rs) (s ∷ ss) tw zero = (ap (λ l. recordOf (l .key) 1 0 .label) (tw .0), tw .1)
+twins-withdrawn (r ∷ rs) (s ∷ ss) tw (suc n) = (tw .0, twins-withdrawn rs ss (tw .1) n)
 
 module _ (lent : ℕ) (rs ss : List Record) (tw : Twins rs ss) where
   same-length : length rs ≡ length ss
-  same-length = sym (length-map rs (λ r. r .label)) ∙ ap length tw ∙ length-map ss (λ r. r .label)
+  same-length = sym (each-length SameLabel rs ss tw)
 
-  same-label : (n : ℕ) → getD rs n noRecord .label ≡ getD ss n noRecord .label
-  same-label n =
-      sym (List·getD-map (λ r. r .label) rs n noRecord)
-      ∙ ap (λ l. getD l n (noRecord .label)) tw
-      ∙ List·getD-map (λ r. r .label) ss n noRecord
-
-  twin-posts : (k : Key) (a b : ℕ) → fault k a ≡ fault k b → Agree (ledgerMachine lent) (ledgerMachine lent) Twins rs ss (post k a) (post k b)
+  twin-posts : (k : Key) (a b : ℕ) → ledgerFault k a ≡ ledgerFault k b → Agree (ledgerMachine lent) (ledgerMachine lent) Twins rs ss (post k a) (post k b)
   unfolding ledgerCause ledgerDone
   twin-posts k a b e =
       record {
         causes = rw (e, same-length);
         figures = λ z. same-length;
-        next = λ z. rw (labels-append rs (recordOf k standing a), labels-append ss (recordOf k standing b), tw);
+        next = λ z. each-snoc SameLabel rs ss (recordOf k 0 a) (recordOf k 0 b) tw refl;
       }
 
   twin-withdrawals : (n : ℕ) → Agree (ledgerMachine lent) (ledgerMachine lent) Twins rs ss (withdraw n) (withdraw n)
   unfolding ledgerCause ledgerDone
   twin-withdrawals n =
       record {
-        causes = rw (same-length, same-label n);
+        causes = rw (same-standing rs ss tw n);
         figures = λ z. refl;
-        next = λ z. rw (labels-set rs n _, labels-set ss n _, tw, ap (λ l. l .key) (same-label n));
+        next = λ z. twins-withdrawn rs ss tw n;
       }
 
   pub twin-step : (c d : Call) → AlikeCalls c d → Agree (ledgerMachine lent) (ledgerMachine lent) Twins rs ss c d

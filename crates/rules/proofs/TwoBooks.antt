@@ -1,41 +1,35 @@
 -- Demand 3 (specs/Order.antt), proved. Assumes nothing.
-use mathlib.Core.Path.{_≡_, refl, sym, ap, ap₂, subst, subst₂, _∙_, fun-ext}
-use mathlib.Core.Bool.{true}
-use mathlib.Core.List.{List, [], _∷_}
-use Prim.Native.Nat.{ℕ, zero, suc, _≤_, zero-le}
+use mathlib.Core.Path.{_≡_, refl, sym, ap₂, subst, _∙_, fun-ext}
+use mathlib.Core.List.{List, []}
+use Prim.Native.Nat.{ℕ, zero, suc, zero-le}
 use native.Mathlib.Nat.{suc-ne-zero}
 use lib.IntN.{ℤ, pos}
 use lib.ListN.{length}
 use lib.Signed.{_≤ℤ_, ≤ℤ-refl}
-use borrow.Author.Tests.{le-leb}
 use Rattle.numbers.specs.Tests.{all}
-use Rattle.numbers.specs.Causes.{unless, firstOf, ifDone}
-use Rattle.rules.specs.Entry.{Record, partyOk, dayOk}
+use Rattle.numbers.specs.Causes.{ifDone}
+use Rattle.rules.specs.Entry.{Record}
 use Rattle.rules.specs.Words.{laid}
-use Rattle.rules.specs.Book.{openCause, openWords}
+use Rattle.rules.specs.Book.{openCause}
 use Rattle.rules.specs.Balance.{Volume, balance, partyDayCause, balanceAnswer}
-use Rattle.rules.specs.Collateral.{figuresOk, collateralCause, collateralOf, collateralAnswer, refusedCollateral}
-use Rattle.rules.specs.Ledger.{Call, after, answers, callAnswer, callWords, bookAfter, bookAnswers, ledgerAnswer, ledgerLeaves, ledgerAfter, ledgerAnswers}
-use Rattle.rules.specs.Compared.{Each, AlikeCalls, NoWorse, SameWhereNamed, LowerMoney, LowerCase}
-use Rattle.rules.specs.Order.{TwoBooks, Claim, AsLedger, bookOf, recordsOf, fresh}
+use Rattle.rules.specs.Collateral.{collateralCause, collateralOf, collateralAnswer, refusedCollateral}
+use Rattle.rules.specs.Ledger.{Call, after, answers, bookAfter, bookAnswers, ledgerAnswer, ledgerLeaves, ledgerAfter, ledgerAnswers}
+use Rattle.rules.specs.Compared.{Each, AlikeCalls}
+use Rattle.rules.specs.Order.{TwoBooks, AsLedger, bookOf, recordsOf, fresh}
 use Rattle.rules.specs.declared.Case.{Case}
 use Rattle.rules.specs.declared.BalanceAnswer.{BalanceAnswer}
 use Rattle.rules.specs.declared.Collateral.{Collateral}
 use Rattle.rules.proofs.WordLaws.{Fits, laid-book}
 use Rattle.rules.proofs.BookLaws.{open-limits, opened-laid}
+use Rattle.rules.proofs.EachLaws.{each-equal}
 use Rattle.rules.proofs.SumOrder.{Twins, lower-balance, same-sums, equal-balance}
 use Rattle.rules.proofs.CollateralOrder.{lower-total, equal-collateral}
-use Rattle.rules.proofs.Machine.{Agree, answerOf, leavesOf, same-answers, same-states, each-equal}
+use Rattle.rules.proofs.AskedLaws.{askedCause, caseCause, asked-cause, case-cause}
+use Rattle.rules.proofs.Machine.{Agree, same-answers, same-states}
 use Rattle.rules.proofs.Shows.{bookMachine, ledgerMachine, pack, book-answer, book-leaves, Shows, shown-fits, show-step}
 use Rattle.rules.proofs.TwinCalls.{twin-step}
 
 -- what a balance and a collateral answer on a book of these records
-abbrev askedCause : ℕ → ℕ → ℕ
-askedCause p d = firstOf (unless (partyOk p) 3 ∷ unless (dayOk d) 4 ∷ [])
-
-abbrev caseCause : Case → ℕ
-caseCause c = firstOf (askedCause (c .asked .party) (c .asked .day) ∷ unless (figuresOk c) 12 ∷ [])
-
 abbrev balanceOver : Volume → ℕ → ℕ → ℕ → ℕ → List Record → BalanceAnswer
 balanceOver v R TM p d rs =
     record { answer = askedCause p d; balance = ifDone (askedCause p d) (balance v R TM p d rs) (pos 0) }
@@ -94,14 +88,17 @@ module _ (ws : List ℕ) (R TM : ℕ) (cs : List Call) (opened : openCause (leng
   collateral-of : (c : Case) → collateralAnswer (bookOf ws R TM cs) c ≡ collateralOver c (recordsOf ws cs)
   collateral-of c = rw (shown .words) (collateral-laid fits c)
 
+  done-collateral : (c : Case) → collateralAnswer (bookOf ws R TM cs) c .answer ≡ 0 → collateralAnswer (bookOf ws R TM cs) c ≡ collateralOf c (recordsOf ws cs)
+  done-collateral c e = collateral-of c ∙ not-refused (caseCause c) (collateralOf c (recordsOf ws cs)) (rw (collateral-of c) at e)
+
   pub as-ledger : AsLedger ws R TM cs
   as-ledger =
       record {
         answers = same-as-ledger;
         words = shown .words;
         lent = rw (shown .words) (laid-book fits .long);
-        balances = λ v p d low high last. balance-of v p d ∙ rw (le-leb 1 p low, le-leb p 999 high, le-leb d 36524 last);
-        collaterals = λ c e. collateral-of c ∙ not-refused (caseCause c) (collateralOf c (recordsOf ws cs)) (rw (collateral-of c) at e);
+        balances = λ v p d k a. balance-of v p d ∙ rw (asked-cause p d k a);
+        collaterals = λ c k a. collateral-of c ∙ rw (case-cause c k a);
       }
 
 module _ (ws vs : List ℕ) (R TM : ℕ) (cs ds : List Call) (same : length ws ≡ length vs) (alike : Each AlikeCalls cs ds) where
@@ -110,14 +107,14 @@ module _ (ws vs : List ℕ) (R TM : ℕ) (cs ds : List Call) (same : length ws �
   twins =
       rw (← same)
       (same-states pack 0 (ledgerMachine (length ws)) (ledgerMachine (length ws)) Twins AlikeCalls
-      (λ rs ss c d tw a. twin-step (length ws) rs ss tw c d a) cs ds alike [] [] refl)
+      (λ rs ss c d tw a. twin-step (length ws) rs ss tw c d a) cs ds alike [] [] tt)
 
   ledgers-alike : ledgerAnswers (length ws) cs ≡ ledgerAnswers (length vs) ds
   unfolding ledgerAnswers ledgerAnswer ledgerLeaves
   ledgers-alike =
       rw (← same)
       (same-answers pack 0 (ledgerMachine (length ws)) (ledgerMachine (length ws)) Twins AlikeCalls
-      (λ rs ss c d tw a. twin-step (length ws) rs ss tw c d a) cs ds alike [] [] refl)
+      (λ rs ss c d tw a. twin-step (length ws) rs ss tw c d a) cs ds alike [] [] tt)
 
 pub two-books : TwoBooks
 unfolding collateralOf
@@ -132,11 +129,12 @@ two-books ws vs R TM cs ds same opened alike =
       first = one;
       second = two;
       alike = one .answers ∙ ledgers-alike ws vs R TM cs ds same alike ∙ sym (two .answers);
+      keys = tw;
       lowerBalance = λ v p d each.
           rw (balance-of ws R TM cs opened v p d, balance-of vs R TM ds opened′ v p d)
           (done-lower (askedCause p d) (lower-balance p d rs ss tw each v R TM));
       lowerCollateral = λ b c l m e e′.
-          rw (one .collaterals b e, two .collaterals c e′) (lower-total b c rs ss l m);
+          rw (done-collateral ws R TM cs opened b e, done-collateral vs R TM ds opened′ c e′) (lower-total b c rs ss l m);
       equalBalance = λ v p d each.
           rw (balance-of ws R TM cs opened v p d, balance-of vs R TM ds opened′ v p d, equal-balance p rs ss tw each v R TM d);
       equalCollateral = λ c each.

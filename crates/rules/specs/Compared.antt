@@ -2,12 +2,12 @@
 use mathlib.Core.Logic.{_⊎_, _↔_}
 use mathlib.Core.Path.{_≡_}
 use mathlib.Core.List.{List, [], _∷_}
-use Prim.Native.Nat.{ℕ, _≤_}
+use Prim.Native.Nat.{ℕ, zero, suc, _+_, _≤_}
+use lib.IntN.{natAbs}
 use Rattle.rules.specs.Entry.{Key, Record, key}
-use Rattle.rules.specs.Balance.{sumOf}
 use Rattle.rules.specs.Month.{Tables, tablesOf, monthAnswer}
 use Rattle.rules.specs.CaseFigures.{withMonths}
-use Rattle.rules.specs.Ledger.{Call, post, withdraw}
+use Rattle.rules.specs.Ledger.{Call, post}
 use Rattle.rules.specs.declared.Month.{Month}
 use Rattle.rules.specs.declared.Case.{Case}
 
@@ -27,6 +27,10 @@ InRange t a = ((1 ≤ t) × (t ≤ 16) × (a ≤ 1000000000)) ⊎ ((17 ≤ t) ×
 pub data AlikeCalls : Call → Call → Type 0 where
   equal : {c : Call} → AlikeCalls c c
   amounts : {k : Key} {a b : ℕ} → InRange (k .type) a → InRange (k .type) b → AlikeCalls (post k a) (post k b)
+
+-- records of equal number: equal party, day, type, counterparty and status
+abbrev pub SameLabel : Record → Record → Type 0
+SameLabel r s = r .label ≡ s .label
 
 -- a party's sales of a day are its standing types 1-6, its cover its types 7-16 and others' type 6 to it
 abbrev pub Standing : Record → Type 0
@@ -49,11 +53,22 @@ NoWorse p d r s =
 abbrev pub SameWhereNamed : ℕ → Record → Record → Type 0
 SameWhereNamed p r s = Standing r → ((key r .party ≡ p) ⊎ (key r .counterparty ≡ p)) → r .amount ≡ s .amount
 
--- sums of money: purchases (17, 19) no larger in the second book, sales (18, 20) no smaller, zero in one exactly when in the other
+-- a sum over the records for which P holds
+pub data Sum (P : Record → Type 0) : List Record → ℕ → Type 0 where
+  none : Sum P [] 0
+  added : {r : Record} {rs : List Record} {n : ℕ} → P r → Sum P rs n → Sum P (r ∷ rs) (r .amount + n)
+  passed : {r : Record} {rs : List Record} {n : ℕ} → ¬ P r → Sum P rs n → Sum P (r ∷ rs) n
+
+-- sums of money are one party's, day's and type's, over standing records
+abbrev pub IsMoney : ℕ → ℕ → ℕ → Record → Type 0
+IsMoney p d t r = Standing r × (key r .party ≡ p) × (key r .day ≡ d) × (key r .type ≡ t)
+
+-- sums m of the first book and n of the second: purchases (17, 19) no larger in the second, sales (18, 20) no smaller,
+-- zero in one exactly when in the other
 pub record LowerMoney (p : ℕ) (rs ss : List Record) : Type 0 where
-  pub purchases : (d t : ℕ) → (t ≡ 17) ⊎ (t ≡ 19) → sumOf p d t ss ≤ sumOf p d t rs
-  pub sales : (d t : ℕ) → (t ≡ 18) ⊎ (t ≡ 20) → sumOf p d t rs ≤ sumOf p d t ss
-  pub zeros : (d t : ℕ) → 17 ≤ t → t ≤ 20 → (sumOf p d t rs ≡ 0) ↔ (sumOf p d t ss ≡ 0)
+  pub purchases : (d t m n : ℕ) → (t ≡ 17) ⊎ (t ≡ 19) → Sum (IsMoney p d t) rs m → Sum (IsMoney p d t) ss n → n ≤ m
+  pub sales : (d t m n : ℕ) → (t ≡ 18) ⊎ (t ≡ 20) → Sum (IsMoney p d t) rs m → Sum (IsMoney p d t) ss n → m ≤ n
+  pub zeros : (d t m n : ℕ) → 17 ≤ t → t ≤ 20 → Sum (IsMoney p d t) rs m → Sum (IsMoney p d t) ss n → (m ≡ 0) ↔ (n ≡ 0)
 
 -- a month answer from tables not refused, and one from tables alike but for prices, each no higher
 pub record Cheaper (m n : Month) : Type 0 where
@@ -67,3 +82,43 @@ pub record Cheaper (m n : Month) : Type 0 where
 abbrev pub LowerCase : Case → Case → Type 0
 LowerCase b c =
     (b ≡ withMonths c (b .group .months)) × Each (λ m n. (m ≡ n) ⊎ Cheaper m n) (b .group .months) (c .group .months)
+
+-- what may be asked of a book (01, 'Why a call comes back'): a party of 1 to 999 and a day of at most 36,524
+abbrev pub IsParty : ℕ → Type 0
+IsParty p = (1 ≤ p) × (p ≤ 999)
+
+abbrev pub IsDay : ℕ → Type 0
+IsDay d = d ≤ 36524
+
+-- the answer of a call for a party and a day: 0, or the lowest cause
+pub data AskedAnswer (p d : ℕ) : ℕ → Type 0 where
+  inRange : IsParty p → IsDay d → AskedAnswer p d 0
+  noParty : ¬ IsParty p → AskedAnswer p d 3
+  noDay : IsParty p → ¬ IsDay d → AskedAnswer p d 4
+
+-- the figures of a case in their ranges, month answers only if used (01, 'Collateral')
+abbrev pub UsedMonths : ℕ → List Month → Type 0
+UsedMonths zero ms = Unit {0}
+UsedMonths (suc n) [] = Unit {0}
+UsedMonths (suc n) (m ∷ ms) = (m .aosmf ≤ 1000000) × (natAbs (m .aedm) ≤ 14900000000) × UsedMonths n ms
+
+pub record IsCase (c : Case) : Type 0 where
+  pub licence : c .margin .licence ≤ 2
+  pub holiday : c .trading .holiday ≤ 1
+  pub responsible : c .group .responsible ≤ 1
+  pub capacity : c .margin .capacity ≤ 100000000
+  pub nonbusiness : c .trading .nonbusiness ≤ 29
+  pub defaults : c .trading .defaults ≤ 30
+  pub used : c .group .used ≤ 3
+  pub months : UsedMonths (c .group .used) (c .group .months)
+  pub rk : c .group .rk ≤ 500
+  pub rt : c .group .rt ≤ 1000000000000000
+  pub yt : c .yek .yt ≤ 100000000000000
+  pub best : (1 ≤ c .yek .best) × (c .yek .best ≤ 10000)
+  pub score : c .yek .score ≤ c .yek .best
+
+-- the answer of a call for a case: that for its party and day, else 12 if another figure is out of its range
+pub data CaseAnswer (c : Case) : ℕ → Type 0 where
+  allInRange : AskedAnswer (c .asked .party) (c .asked .day) 0 → IsCase c → CaseAnswer c 0
+  notAsked : {k : ℕ} → AskedAnswer (c .asked .party) (c .asked .day) (suc k) → CaseAnswer c (suc k)
+  noFigure : AskedAnswer (c .asked .party) (c .asked .day) 0 → ¬ IsCase c → CaseAnswer c 12

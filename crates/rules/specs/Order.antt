@@ -2,15 +2,17 @@
 use mathlib.Core.Path.{_≡_}
 use mathlib.Core.List.{List}
 use Prim.Native.Nat.{ℕ, _≤_}
+use lib.IntN.{pos}
 use lib.ListN.{length}
 use lib.Signed.{_≤ℤ_}
+use Rattle.numbers.specs.Causes.{ifDone}
 use Rattle.rules.specs.Entry.{Record}
 use Rattle.rules.specs.Words.{laid}
 use Rattle.rules.specs.Book.{openCause, openWords}
 use Rattle.rules.specs.Balance.{Volume, balance, balanceAnswer}
-use Rattle.rules.specs.Collateral.{collateralOf, collateralAnswer}
+use Rattle.rules.specs.Collateral.{collateralOf, collateralAnswer, refusedCollateral}
 use Rattle.rules.specs.Ledger.{Call, bookAfter, bookAnswers, ledgerAfter, ledgerAnswers}
-use Rattle.rules.specs.Compared.{Each, AlikeCalls, NoWorse, SameWhereNamed, LowerMoney, LowerCase}
+use Rattle.rules.specs.Compared.{Each, AlikeCalls, SameLabel, NoWorse, SameWhereNamed, LowerMoney, LowerCase, AskedAnswer, CaseAnswer}
 use Rattle.rules.specs.declared.Case.{Case}
 
 -- a fresh book: as opening left it; and the book that a list of calls leaves of it
@@ -30,16 +32,20 @@ pub record AsLedger (ws : List ℕ) (R TM : ℕ) (cs : List Call) : Type 0 where
   pub answers : bookAnswers (fresh ws R TM) cs ≡ ledgerAnswers (length ws) cs
   pub words : bookOf ws R TM cs ≡ laid R TM (recordsOf ws cs) ws
   pub lent : length (bookOf ws R TM cs) ≡ length ws
-  pub balances : (v : Volume) (p d : ℕ) → 1 ≤ p → p ≤ 999 → d ≤ 36524 →
-      balanceAnswer v (bookOf ws R TM cs) p d ≡ record { answer = 0; balance = balance v R TM p d (recordsOf ws cs) }
-  pub collaterals : (c : Case) → collateralAnswer (bookOf ws R TM cs) c .answer ≡ 0 →
-      collateralAnswer (bookOf ws R TM cs) c ≡ collateralOf c (recordsOf ws cs)
+  -- a party or day out of range is refused by 3 or 4, with balance 0
+  pub balances : (v : Volume) (p d k : ℕ) → AskedAnswer p d k →
+      balanceAnswer v (bookOf ws R TM cs) p d ≡ record { answer = k; balance = ifDone k (balance v R TM p d (recordsOf ws cs)) (pos 0) }
+  -- a case out of range is refused by 3, 4 or 12, with all figures 0
+  pub collaterals : (c : Case) (k : ℕ) → CaseAnswer c k →
+      collateralAnswer (bookOf ws R TM cs) c ≡ ifDone k (collateralOf c (recordsOf ws cs)) (refusedCollateral k)
 
 pub record Claim (ws vs : List ℕ) (R TM : ℕ) (cs ds : List Call) : Type 0 where
   pub first : AsLedger ws R TM cs
   pub second : AsLedger vs R TM ds
   -- all calls are answered alike
   pub alike : bookAnswers (fresh ws R TM) cs ≡ bookAnswers (fresh vs R TM) ds
+  -- records of equal number have equal keys and statuses
+  pub keys : Each SameLabel (recordsOf ws cs) (recordsOf vs ds)
   -- standing sales of a day no larger, standing cover no smaller: neither balance is larger
   pub lowerBalance : (v : Volume) (p d : ℕ) → Each (NoWorse p d) (recordsOf ws cs) (recordsOf vs ds) →
       balanceAnswer v (bookOf vs R TM ds) p d .balance ≤ℤ balanceAnswer v (bookOf ws R TM cs) p d .balance
