@@ -9,15 +9,13 @@ use Rattle.numbers.specs.Tests.{every}
 use Rattle.calendar.specs.Calendar.{dateOf}
 use Rattle.rules.specs.Entry.{keyOf}
 use Rattle.rules.specs.Words.{isBook}
-use Rattle.rules.specs.Book.{postCause, withdrawCause}
 use Rattle.rules.specs.Balance.{dayAhead, delivery, balanceAnswer}
 use Rattle.rules.specs.Month.{monthAnswer}
 use Rattle.rules.specs.Collateral.{noMonth, collateralAnswer}
 use Rattle.rules.specs.CaseFigures.{withNonbusiness, withHoliday, withDefaults, withResponsible, withMonths, withUsed, withRk, withRt}
-use Rattle.rules.specs.Control.{controlCause, controlWords}
 use Rattle.rules.specs.DayFile.{fileNames}
 use Rattle.rules.specs.Ledger.{post, withdraw}
-use Rattle.rules.proofs.Worked.{minus, isSigned, isDate, book, own, on, sold, balanceIs, bothAre, acquiredIs, case, generator, marginIs, imbalanceIs, yekIs, tradingIs, tables, priceIs, recordableIs, nets, short, twoRows, wild, dear, totalIs, sample, emptyBlocks, fileIs, fileBalanceIs, controlIs, statusIs, chain, august, september, oneDay, computed}
+use Rattle.rules.proofs.Worked.{postCause, withdrawCause, controlCause, controlWords, minus, isSigned, isDate, book, own, on, sold, balanceIs, bothAre, acquiredIs, case, generator, marginIs, imbalanceIs, yekIs, tradingIs, tables, priceIs, recordableIs, nets, short, twoRows, wild, dear, totalIs, sample, emptyBlocks, fileIs, fileBalanceIs, controlIs, statusIs, chain, august, september, oneDay, computed}
 
 pub starred : List Bool
 starred =

@@ -3,21 +3,8 @@ use mathlib.Core.Path.{_≡_, refl, ap₂}
 use mathlib.Core.List.{List, [], _∷_}
 use Prim.Native.Nat.{ℕ, zero, suc}
 use Rattle.numbers.specs.Causes.{ifDone}
-use Rattle.rules.specs.Ledger.{after, answers}
+use Rattle.rules.specs.Machine.{Machine, Answer, leavesOf, figuresOf, after, answers}
 use Rattle.rules.specs.Compared.{Each}
-
--- what calls do to a state: the cause of a refusal, the figures of a done call and the state that it leaves
-pub record Machine (S C F : Type 0) : Type 0 where
-  pub cause : S → C → ℕ
-  pub figures : S → C → F
-  pub done : S → C → S
-
--- a refused call leaves the state, and its other figures are those of `none`
-abbrev pub leavesOf : {S C F : Type 0} → Machine S C F → S → C → S
-leavesOf m s c = ifDone (m .cause s c) (m .done s c) s
-
-abbrev pub answerOf : {S C F A : Type 0} → (ℕ → F → A) → F → Machine S C F → S → C → A
-answerOf pack none m s c = pack (m .cause s c) (ifDone (m .cause s c) (m .figures s c) none)
 
 -- two calls on two machines agree: equal causes and, where none holds, equal figures and related states
 pub record Agree {S S′ C F : Type 0} (m : Machine S C F) (m′ : Machine S′ C F) (Rel : S → S′ → Type 0) (s : S) (s′ : S′) (c d : C) : Type 0 where
@@ -25,7 +12,7 @@ pub record Agree {S S′ C F : Type 0} (m : Machine S C F) (m′ : Machine S′ 
   pub figures : m .cause s c ≡ 0 → m .figures s c ≡ m′ .figures s′ d
   pub next : m .cause s c ≡ 0 → Rel (m .done s c) (m′ .done s′ d)
 
-module _ {S S′ C F A : Type 0} (pack : ℕ → F → A) (none : F) (m : Machine S C F) (m′ : Machine S′ C F) (Rel : S → S′ → Type 0) (Alike : C → C → Type 0)
+module _ {S S′ C F : Type 0} (none : F) (m : Machine S C F) (m′ : Machine S′ C F) (Rel : S → S′ → Type 0) (Alike : C → C → Type 0)
     (step : (s : S) (s′ : S′) (c d : C) → Rel s s′ → Alike c d → Agree m m′ Rel s s′ c d) where
   done-alike : (c : ℕ) (f f′ : F) → (c ≡ 0 → f ≡ f′) → ifDone c f none ≡ ifDone c f′ none
   done-alike zero f f′ h = h refl
@@ -35,27 +22,29 @@ module _ {S S′ C F A : Type 0} (pack : ℕ → F → A) (none : F) (m : Machin
   done-related zero s t s′ t′ r h = h refl
   done-related (suc c) s t s′ t′ r h = r
 
-  same-answer : (s : S) (s′ : S′) (c d : C) → Rel s s′ → Alike c d → answerOf pack none m s c ≡ answerOf pack none m′ s′ d
-  same-answer s s′ c d r a =
+  same-figures : (s : S) (s′ : S′) (c d : C) → Rel s s′ → Alike c d → figuresOf none m s c ≡ figuresOf none m′ s′ d
+  unfolding figuresOf
+  same-figures s s′ c d r a =
       let e = step s s′ c d r a in
-      rw (← e .causes) (ap₂ pack refl (done-alike (m .cause s c) (m .figures s c) (m′ .figures s′ d) (e .figures)))
+      rw (← e .causes) (done-alike (m .cause s c) (m .figures s c) (m′ .figures s′ d) (e .figures))
 
   same-state : (s : S) (s′ : S′) (c d : C) → Rel s s′ → Alike c d → Rel (leavesOf m s c) (leavesOf m′ s′ d)
+  unfolding leavesOf
   same-state s s′ c d r a =
       let e = step s s′ c d r a in
       rw (← e .causes) (done-related (m .cause s c) s (m .done s c) s′ (m′ .done s′ d) r (e .next))
 
-  pub same-answers : (cs ds : List C) → Each Alike cs ds → (s : S) (s′ : S′) → Rel s s′ →
-      answers (answerOf pack none m) (leavesOf m) s cs ≡ answers (answerOf pack none m′) (leavesOf m′) s′ ds
+  pub same-answers : (cs ds : List C) → Each Alike cs ds → (s : S) (s′ : S′) → Rel s s′ → answers none m s cs ≡ answers none m′ s′ ds
   unfolding answers
   same-answers [] [] each s s′ r = refl
   same-answers [] (d ∷ ds) each s s′ r = absurd each
   same-answers (c ∷ cs) [] each s s′ r = absurd each
   same-answers (c ∷ cs) (d ∷ ds) each s s′ r =
-      ap₂ _∷_ (same-answer s s′ c d r (each .0))
+      ap₂ _∷_
+      (ap₂ (λ x y. record { cause = x; figures = y }) (step s s′ c d r (each .0) .causes) (same-figures s s′ c d r (each .0)))
       (same-answers cs ds (each .1) (leavesOf m s c) (leavesOf m′ s′ d) (same-state s s′ c d r (each .0)))
 
-  pub same-states : (cs ds : List C) → Each Alike cs ds → (s : S) (s′ : S′) → Rel s s′ → Rel (after (leavesOf m) s cs) (after (leavesOf m′) s′ ds)
+  pub same-states : (cs ds : List C) → Each Alike cs ds → (s : S) (s′ : S′) → Rel s s′ → Rel (after m s cs) (after m′ s′ ds)
   unfolding after
   same-states [] [] each s s′ r = r
   same-states [] (d ∷ ds) each s s′ r = absurd each

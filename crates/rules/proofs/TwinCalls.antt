@@ -9,12 +9,11 @@ use lib.Dec.{eqb, leb, ltb}
 use lib.ListN.{length}
 use borrow.Author.Tests.{le-leb, lt-leb, le-ltb}
 use Rattle.rules.specs.Entry.{Key, Record, recordOf, key}
-use Rattle.rules.specs.Ledger.{Call, post, withdraw, ledgerFault, standsAt, withdrawnAt, ledgerCause, ledgerDone}
+use Rattle.rules.specs.Ledger.{Call, post, withdraw, ledger, ledgerFault, standsAt, withdrawnAt, ledgerCause, ledgerDone}
 use Rattle.rules.specs.Compared.{InRange, AlikeCalls, equal, amounts, SameLabel}
 use Rattle.rules.proofs.EachLaws.{each-length, each-snoc}
 use Rattle.rules.proofs.SumOrder.{Twins}
 use Rattle.rules.proofs.Machine.{Agree}
-use Rattle.rules.proofs.Shows.{ledgerMachine}
 
 -- an amount in range for its type passes check 7
 in-range : (t a : ℕ) → InRange t a → (leb t 16 && ltb 1000000000 a ≡ false) × (leb 17 t && ltb 1000000000000 a ≡ false)
@@ -49,16 +48,16 @@ module _ (lent : ℕ) (rs ss : List Record) (tw : Twins rs ss) where
   same-length : length rs ≡ length ss
   same-length = sym (each-length SameLabel rs ss tw)
 
-  twin-posts : (k : Key) (a b : ℕ) → ledgerFault k a ≡ ledgerFault k b → Agree (ledgerMachine lent) (ledgerMachine lent) Twins rs ss (post k a) (post k b)
+  twin-posts : (k : Key) (a b : ℕ) → ledgerFault k a ≡ ledgerFault k b → Agree (ledger lent) (ledger lent) Twins rs ss (post k a) (post k b)
   unfolding ledgerCause ledgerDone
   twin-posts k a b e =
       record {
         causes = rw (e, same-length);
-        figures = λ z. same-length;
+        figures = λ z. rw same-length;
         next = λ z. each-snoc SameLabel rs ss (recordOf k 0 a) (recordOf k 0 b) tw refl;
       }
 
-  twin-withdrawals : (n : ℕ) → Agree (ledgerMachine lent) (ledgerMachine lent) Twins rs ss (withdraw n) (withdraw n)
+  twin-withdrawals : (n : ℕ) → Agree (ledger lent) (ledger lent) Twins rs ss (withdraw n) (withdraw n)
   unfolding ledgerCause ledgerDone
   twin-withdrawals n =
       record {
@@ -67,7 +66,7 @@ module _ (lent : ℕ) (rs ss : List Record) (tw : Twins rs ss) where
         next = λ z. twins-withdrawn rs ss tw n;
       }
 
-  pub twin-step : (c d : Call) → AlikeCalls c d → Agree (ledgerMachine lent) (ledgerMachine lent) Twins rs ss c d
+  pub twin-step : (c d : Call) → AlikeCalls c d → Agree (ledger lent) (ledger lent) Twins rs ss c d
   twin-step c d (equal {c = post k a}) = twin-posts k a a refl
   twin-step c d (equal {c = withdraw n}) = twin-withdrawals n
   twin-step c d (amounts {k = k} {a = a} {b = b} h g) = twin-posts k a b (same-fault k a b h g)

@@ -1,5 +1,5 @@
 -- Demand 3 (specs/Order.antt), proved. Assumes nothing.
-use mathlib.Core.Path.{_≡_, refl, sym, ap₂, subst, _∙_, fun-ext}
+use mathlib.Core.Path.{_≡_, refl, sym, _∙_}
 use mathlib.Core.List.{List, []}
 use Prim.Native.Nat.{ℕ, zero, suc, zero-le}
 use native.Mathlib.Nat.{suc-ne-zero}
@@ -13,7 +13,8 @@ use Rattle.rules.specs.Words.{laid}
 use Rattle.rules.specs.Book.{openCause}
 use Rattle.rules.specs.Balance.{Volume, balance, partyDayCause, balanceAnswer}
 use Rattle.rules.specs.Collateral.{collateralCause, collateralOf, collateralAnswer, refusedCollateral}
-use Rattle.rules.specs.Ledger.{Call, after, answers, bookAfter, bookAnswers, ledgerAnswer, ledgerLeaves, ledgerAfter, ledgerAnswers}
+use Rattle.rules.specs.Calls.{noFigures}
+use Rattle.rules.specs.Ledger.{Call, bookCalls, bookAfter, bookAnswers, ledger, ledgerAfter, ledgerAnswers}
 use Rattle.rules.specs.Compared.{Each, AlikeCalls}
 use Rattle.rules.specs.Order.{TwoBooks, AsLedger, bookOf, recordsOf, fresh}
 use Rattle.rules.specs.declared.Case.{Case}
@@ -26,7 +27,7 @@ use Rattle.rules.proofs.SumOrder.{Twins, lower-balance, same-sums, equa
 use Rattle.rules.proofs.CollateralOrder.{lower-total, equal-collateral}
 use Rattle.rules.proofs.AskedLaws.{askedCause, caseCause, asked-cause, case-cause}
 use Rattle.rules.proofs.Machine.{Agree, same-answers, same-states}
-use Rattle.rules.proofs.Shows.{bookMachine, ledgerMachine, pack, book-answer, book-leaves, Shows, shown-fits, show-step}
+use Rattle.rules.proofs.Shows.{Shows, shown-fits, show-step}
 use Rattle.rules.proofs.TwinCalls.{twin-step}
 
 -- what a balance and a collateral answer on a book of these records
@@ -56,7 +57,7 @@ module _ {R TM : ℕ} {rs : List Record} {ws : List ℕ} (f : Fits R TM rs ws) w
 
 -- one list on one fresh book
 module _ (ws : List ℕ) (R TM : ℕ) (cs : List Call) (opened : openCause (length ws) R TM ≡ 0) where
-  step : (w : List ℕ) (rs : List Record) (c d : Call) → Shows ws R TM w rs → c ≡ d → Agree bookMachine (ledgerMachine (length ws)) (Shows ws R TM) w rs c d
+  step : (w : List ℕ) (rs : List Record) (c d : Call) → Shows ws R TM w rs → c ≡ d → Agree bookCalls (ledger (length ws)) (Shows ws R TM) w rs c d
   step =
       let o = open-limits (length ws) R TM opened in
       show-step ws R TM (o .long) (o .coefficient) (o .tolerance)
@@ -66,10 +67,8 @@ module _ (ws : List ℕ) (R TM : ℕ) (cs : List Call) (opened : openCause (leng
   start = record { words = opened-laid ws R TM opened; kept = refl; room = zero-le }
 
   shown : Shows ws R TM (bookOf ws R TM cs) (recordsOf ws cs)
-  unfolding bookAfter ledgerAfter ledgerLeaves
-  shown =
-      subst (λ f. Shows ws R TM (after f (fresh ws R TM) cs) (recordsOf ws cs)) (fun-ext λ w. fun-ext λ c. sym (book-leaves w c))
-      (same-states pack 0 bookMachine (ledgerMachine (length ws)) (Shows ws R TM) (λ c d. c ≡ d) step cs cs (each-equal cs) (fresh ws R TM) [] start)
+  unfolding bookAfter ledgerAfter
+  shown = same-states noFigures bookCalls (ledger (length ws)) (Shows ws R TM) (λ c d. c ≡ d) step cs cs (each-equal cs) (fresh ws R TM) [] start
 
   fits : Fits R TM (recordsOf ws cs) ws
   fits =
@@ -77,10 +76,9 @@ module _ (ws : List ℕ) (R TM : ℕ) (cs : List Call) (opened : openCause (leng
       shown-fits ws R TM (o .long) (o .coefficient) (o .tolerance) (bookOf ws R TM cs) (recordsOf ws cs) shown
 
   same-as-ledger : bookAnswers (fresh ws R TM) cs ≡ ledgerAnswers (length ws) cs
-  unfolding bookAnswers ledgerAnswers ledgerAnswer ledgerLeaves
+  unfolding bookAnswers ledgerAnswers
   same-as-ledger =
-      ap₂ (λ f g. answers f g (fresh ws R TM) cs) (fun-ext λ w. fun-ext λ c. book-answer w c) (fun-ext λ w. fun-ext λ c. book-leaves w c)
-      ∙ same-answers pack 0 bookMachine (ledgerMachine (length ws)) (Shows ws R TM) (λ c d. c ≡ d) step cs cs (each-equal cs) (fresh ws R TM) [] start
+      same-answers noFigures bookCalls (ledger (length ws)) (Shows ws R TM) (λ c d. c ≡ d) step cs cs (each-equal cs) (fresh ws R TM) [] start
 
   balance-of : (v : Volume) (p d : ℕ) → balanceAnswer v (bookOf ws R TM cs) p d ≡ balanceOver v R TM p d (recordsOf ws cs)
   balance-of v p d = rw (shown .words) (balance-laid fits v p d)
@@ -103,17 +101,17 @@ module _ (ws : List ℕ) (R TM : ℕ) (cs : List Call) (opened : openCause (leng
 
 module _ (ws vs : List ℕ) (R TM : ℕ) (cs ds : List Call) (same : length ws ≡ length vs) (alike : Each AlikeCalls cs ds) where
   twins : Twins (recordsOf ws cs) (recordsOf vs ds)
-  unfolding ledgerAfter ledgerLeaves
+  unfolding ledgerAfter
   twins =
       rw (← same)
-      (same-states pack 0 (ledgerMachine (length ws)) (ledgerMachine (length ws)) Twins AlikeCalls
+      (same-states noFigures (ledger (length ws)) (ledger (length ws)) Twins AlikeCalls
       (λ rs ss c d tw a. twin-step (length ws) rs ss tw c d a) cs ds alike [] [] tt)
 
   ledgers-alike : ledgerAnswers (length ws) cs ≡ ledgerAnswers (length vs) ds
-  unfolding ledgerAnswers ledgerAnswer ledgerLeaves
+  unfolding ledgerAnswers
   ledgers-alike =
       rw (← same)
-      (same-answers pack 0 (ledgerMachine (length ws)) (ledgerMachine (length ws)) Twins AlikeCalls
+      (same-answers noFigures (ledger (length ws)) (ledger (length ws)) Twins AlikeCalls
       (λ rs ss c d tw a. twin-step (length ws) rs ss tw c d a) cs ds alike [] [] tt)
 
 pub two-books : TwoBooks

@@ -294,6 +294,19 @@ pub laid-past : (R TM : ℕ) (rs : List Record) (ws : List ℕ) → drop (3 + 5 
 unfolding laid
 laid-past R TM rs ws = drop-at (usedWords R TM rs) _ _ (length-used R TM rs)
 
+-- records laid over a book of no more of them: as over the words below
+laid-over : (R TM : ℕ) (rs : List Record) (us ws : List ℕ) → drop (3 + 5 * length rs) us ≡ drop (3 + 5 * length rs) ws → laid R TM rs us ≡ laid R TM rs ws
+unfolding laid
+laid-over R TM rs us ws p = ap (λ x. usedWords R TM rs ++ x) p
+
+pub laid-again : (R TM : ℕ) (rs ss : List Record) (ws : List ℕ) → length rs ≤ length ss → laid R TM ss (laid R TM rs ws) ≡ laid R TM ss ws
+laid-again R TM rs ss ws h =
+    let n = 3 + 5 * length rs in
+    let k = 5 * (length ss - length rs) in
+    let e : 3 + 5 * length ss ≡ n + k = omega arith in
+    laid-over R TM ss (laid R TM rs ws) ws
+    (rw (e, ← drop-drop k n (laid R TM rs ws), ← drop-drop k n ws, laid-past R TM rs ws))
+
 -- the words of n entries are within a slice that has room for them
 pub room-words : (n lent : ℕ) → 3 ≤ lent → n ≤ roomIn lent → 3 + 5 * n ≤ lent
 room-words n lent h r = omega arith

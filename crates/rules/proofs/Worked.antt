@@ -13,17 +13,20 @@ use Rattle.numbers.specs.Tests.{every, all, any}
 use Rattle.numbers.specs.Rounding.{halfUp, roundUp}
 use Rattle.numbers.specs.Signed.{sumℤ}
 use Rattle.calendar.specs.Calendar.{Date, dateOf, monthOf, monthFrom, monthStart, monthLength, daysIn, isLeap}
-use Rattle.rules.specs.Entry.{keyOf, counterpartyOk, amountLimit, fault, markOk, statusOk, legal}
+use Rattle.rules.specs.Entry.{Key, keyOf, counterpartyOk, amountLimit, fault, markOk, statusOk, legal}
 use Rattle.rules.specs.Words.{encode, decode, entryOk, entriesOk, readEntries, isBook, entries, encodeAll, usedWords, laid}
-use Rattle.rules.specs.Book.{openCause, openWords, isClosed, shutTo, postCause, storedAt, posted, postAnswer, postWords, entryAt, withdrawCause, restatused, withdrawWords}
+use Rattle.rules.specs.Book.{openCause, openWords, isClosed, shutTo, postRefusal, entryAt, withdrawRefusal, withdrawnAt}
 use Rattle.rules.specs.Balance.{Volume, dayAhead, delivery, counted, countedTo, sumOf, boughtBy, tallyOf, acquired, saleSide, coverSide, balanceOf, balance, isDetected, partyDayCause, balanceAnswer, tallyAnswer}
 use Rattle.rules.specs.Month.{Tables, monthCause, weightedPrices, weights, aosmf, aedm, monthFigures, monthAnswer}
 use Rattle.rules.specs.Collateral.{noMonth, plainCase, generationMargin, margin, tradingDays, debtOf, debts, debt, quarters, trading, highestPrice, lowestVolume, imbalanceOver, imbalance, risk, yek, totalOf, monthOk, figuresOk, collateralCause, collateralOf, collateralAnswer}
 use Rattle.rules.specs.CaseFigures.{withParty, withDay, withLicence, withCapacity, withNonbusiness, withHoliday, withDefaults, withResponsible, withMonths, withUsed, withRk, withRt, withYt, withScore, withBest}
 use Rattle.rules.specs.Ceiling.{isRecordable, ceilingCause, ceilingAnswer}
-use Rattle.rules.specs.Control.{detectedIn, isToCancel, cancelOf, isRepeatedBuyer, firstPass, afterFirst, secondPass, afterSecond, markOf, controlledRecords, controlCause, detectedParties, cancelledEntries, controlAnswer, controlWords}
-use Rattle.rules.specs.DayFile.{wordsOf, isShaped, isFile, Item, itemsFrom, items, itemCause, linesOf, fileCause, fileAnswer, fileWords, itemNames, fileNames}
-use Rattle.rules.specs.Ledger.{Call, post, withdraw, after, answers, callAnswer, callWords, bookAfter, bookAnswers}
+use Rattle.rules.specs.Control.{detectedIn, isToCancel, cancelOf, isRepeatedBuyer, firstPass, afterFirst, secondPass, afterSecond, markOf, controlRefusal, controlledRecords, detectedParties, cancelledEntries}
+use Rattle.rules.specs.DayFile.{wordsOf, isShaped, isFile, Item, itemsFrom, items, itemCause, linesOf, fileRefusal, itemNames, fileNames}
+use Rattle.rules.specs.Machine.{leavesOf, figuresOf, after, answers}
+use Rattle.rules.specs.Calls.{refusal, figuresOn, changed, causeOf, figuresAt, wordsAfter, controlAnswer, fileAnswer}
+use Rattle.rules.specs.Calls as calls
+use Rattle.rules.specs.Ledger.{Call, post, withdraw, bookAfter, bookAnswers}
 use Rattle.rules.specs.declared.Month.{Month}
 use Rattle.rules.specs.declared.Case.{Case}
 use Rattle.rules.specs.declared.Controlled.{Controlled}
@@ -40,6 +43,31 @@ isDate t y m d = every (eqb (t .year) y ∷ eqb (t .month) m ∷ eqb (t .day) d 
 -- a book for ten entries with R 110 and TM 600,000, after these calls
 abbrev pub book : List Call → List ℕ
 book cs = bookAfter (openWords (replicate 53 0) 110 600000) cs
+
+-- the cause of each call, and the words that it leaves
+abbrev pub postCause : List ℕ → Key → ℕ → ℕ
+postCause ws k a = causeOf ws (calls.post k a)
+
+abbrev pub postWords : List ℕ → Key → ℕ → List ℕ
+postWords ws k a = wordsAfter ws (calls.post k a)
+
+abbrev pub withdrawCause : List ℕ → ℕ → ℕ
+withdrawCause ws n = causeOf ws (calls.withdraw n)
+
+abbrev pub withdrawWords : List ℕ → ℕ → List ℕ
+withdrawWords ws n = wordsAfter ws (calls.withdraw n)
+
+abbrev pub controlCause : List ℕ → ℕ → ℕ
+controlCause ws d = causeOf ws (calls.control d)
+
+abbrev pub controlWords : List ℕ → ℕ → List ℕ
+controlWords ws d = wordsAfter ws (calls.control d)
+
+abbrev pub fileCause : List ℕ → List ℕ → ℕ
+fileCause ws bs = causeOf ws (calls.file bs)
+
+abbrev pub fileWords : List ℕ → List ℕ → List ℕ
+fileWords ws bs = wordsAfter ws (calls.file bs)
 
 -- posts of party 1 on day 9,000, and on another day
 abbrev pub own : ℕ → ℕ → Call
@@ -170,6 +198,6 @@ oneDay = controlWords (book (chain 9000)) 9000
 
 -- what the lists compute with: to unfold `computed` is to unfold all of these
 unfoldable pub computed : Unit {0}
-unfolding sum total count countBelow all any halfUp roundUp sumℤ dateOf monthOf monthFrom monthStart monthLength daysIn isLeap counterpartyOk amountLimit fault markOk statusOk legal encode decode entryOk entriesOk readEntries isBook entries encodeAll usedWords laid openCause openWords isClosed shutTo postCause storedAt posted postAnswer postWords entryAt withdrawCause restatused withdrawWords counted countedTo sumOf boughtBy tallyOf acquired saleSide coverSide balanceOf balance isDetected partyDayCause balanceAnswer tallyAnswer monthCause weightedPrices weights aosmf aedm monthFigures monthAnswer generationMargin margin tradingDays debtOf debts debt quarters trading highestPrice lowestVolume imbalanceOver imbalance risk yek totalOf monthOk figuresOk collateralCause collateralOf collateralAnswer isRecordable ceilingCause ceilingAnswer detectedIn isToCancel cancelOf isRepeatedBuyer firstPass afterFirst secondPass afterSecond markOf controlledRecords controlCause detectedParties cancelledEntries controlAnswer controlWords wordsOf isShaped isFile itemsFrom items itemCause linesOf fileCause fileAnswer fileWords itemNames fileNames after answers callAnswer callWords bookAfter bookAnswers
+unfolding sum total count countBelow all any halfUp roundUp sumℤ dateOf monthOf monthFrom monthStart monthLength daysIn isLeap counterpartyOk amountLimit fault markOk statusOk legal encode decode entryOk entriesOk readEntries isBook entries encodeAll usedWords laid openCause openWords isClosed shutTo entryAt counted countedTo sumOf boughtBy tallyOf acquired saleSide coverSide balanceOf balance isDetected partyDayCause balanceAnswer tallyAnswer monthCause weightedPrices weights aosmf aedm monthFigures monthAnswer generationMargin margin tradingDays debtOf debts debt quarters trading highestPrice lowestVolume imbalanceOver imbalance risk yek totalOf monthOk figuresOk collateralCause collateralOf collateralAnswer isRecordable ceilingCause ceilingAnswer detectedIn isToCancel cancelOf isRepeatedBuyer firstPass afterFirst secondPass afterSecond markOf controlledRecords detectedParties cancelledEntries wordsOf isShaped isFile itemsFrom items itemCause linesOf itemNames fileNames after answers bookAfter bookAnswers postRefusal withdrawRefusal withdrawnAt controlRefusal fileRefusal leavesOf figuresOf refusal figuresOn changed causeOf figuresAt wordsAfter
 computed = tt
 

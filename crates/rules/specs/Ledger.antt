@@ -1,46 +1,40 @@
 -- Lists of calls on a book, and the ledger of such a list (01, 'Demand 3 and its ledger').
--- The ledger is that section in figures of its own: it shares with the book the data type of a record and 'the first cause of a list'.
+-- The ledger is that section in figures of its own: it shares with the book the data types of a record and of an answer, and 'the first cause of a list'.
 -- That its checks, room and statuses are the book's is shown in proofs/LedgerLaws.antt.
 use mathlib.Core.Bool.{Bool, true, false, not, _&&_, _||_}
 use mathlib.Core.List.{List, [], _∷_, _++_}
 use Prim.Native.Nat.{ℕ, zero, suc, _-_, _/_, min}
 use lib.Dec.{eqb, leb, ltb}
 use lib.ListN.{length}
-use Rattle.numbers.specs.Causes.{firstOf, ifDone}
+use Rattle.numbers.specs.Causes.{firstOf}
 use Rattle.rules.specs.Entry.{Key, Record, recordOf, key}
-use Rattle.rules.specs.Book.{postAnswer, postWords, withdrawCause, withdrawWords}
-use Rattle.rules.specs.declared.Posted.{Posted}
+use Rattle.rules.specs.Machine.{Machine, Answer, after, answers}
+use Rattle.rules.specs.Calls.{Change, Figures, noFigures, bookMachine}
+use Rattle.rules.specs.Calls as calls
 
 -- the calls of a list
 pub data Call : Type 0 where
   post : Key → ℕ → Call
   withdraw : ℕ → Call
 
--- the first call gets the state, each later one what the one before left
-module _ {S C : Type 0} (leaves : S → C → S) where
-  unfoldable pub after : S → List C → S
-  after s [] = s
-  after s (c ∷ cs) = after (leaves s c) cs
-
-module _ {S C F : Type 0} (answer : S → C → F) (leaves : S → C → S) where
-  unfoldable pub answers : S → List C → List F
-  answers s [] = []
-  answers s (c ∷ cs) = answer s c ∷ answers (leaves s c) cs
-
 -- a call on a book: the functions that the contracts of post and withdraw cite
-unfoldable pub callAnswer : List ℕ → Call → Posted
-callAnswer ws (post k a) = postAnswer ws k a
-callAnswer ws (withdraw n) = record { answer = withdrawCause ws n; number = 0 }
+abbrev pub asChange : Call → Change
+asChange (post k a) = calls.post k a
+asChange (withdraw n) = calls.withdraw n
 
-unfoldable pub callWords : List ℕ → Call → List ℕ
-callWords ws (post k a) = postWords ws k a
-callWords ws (withdraw n) = withdrawWords ws n
+abbrev pub bookCalls : Machine (List ℕ) Call Figures
+bookCalls =
+    record {
+      cause = λ ws c. bookMachine .cause ws (asChange c);
+      figures = λ ws c. bookMachine .figures ws (asChange c);
+      done = λ ws c. bookMachine .done ws (asChange c);
+    }
 
 unfoldable pub bookAfter : List ℕ → List Call → List ℕ
-bookAfter ws cs = after callWords ws cs
+bookAfter ws cs = after bookCalls ws cs
 
-unfoldable pub bookAnswers : List ℕ → List Call → List Posted
-bookAnswers ws cs = answers callAnswer callWords ws cs
+unfoldable pub bookAnswers : List ℕ → List Call → List (Answer Figures)
+bookAnswers ws cs = answers noFigures bookCalls ws cs
 
 -- the ledger's room is (words lent − 3) / 5, rounded down, at most 3,072
 abbrev pub ledgerRoom : ℕ → ℕ
@@ -90,26 +84,21 @@ ledgerCause lent rs (post k a) = firstOf (ledgerFault k a ∷ causeIf (leb (ledg
 ledgerCause lent rs (withdraw n) = causeIf (not (standsAt rs n)) 10
 
 -- a post's number; no other figure is answered
-abbrev pub ledgerNumber : List Record → Call → ℕ
-ledgerNumber rs (post k a) = length rs
-ledgerNumber rs (withdraw n) = 0
+abbrev pub ledgerFigures : List Record → Call → Figures
+ledgerFigures rs (post k a) = record { number = length rs; lines = 0; first = 0; second = 0; cancelled = 0 }
+ledgerFigures rs (withdraw n) = record { number = 0; lines = 0; first = 0; second = 0; cancelled = 0 }
 
 -- the record is added, standing; a withdrawn one gets status 1
 unfoldable pub ledgerDone : List Record → Call → List Record
 ledgerDone rs (post k a) = rs ++ (recordOf k 0 a ∷ [])
 ledgerDone rs (withdraw n) = withdrawnAt rs n
 
--- a refused call changes no record, and its other returned figures are zero
-unfoldable pub ledgerAnswer : ℕ → List Record → Call → Posted
-ledgerAnswer lent rs c =
-    record { answer = ledgerCause lent rs c; number = ifDone (ledgerCause lent rs c) (ledgerNumber rs c) 0 }
+-- a refused call changes no record, and its other returned figures are zero; at first there are no records
+abbrev pub ledger : ℕ → Machine (List Record) Call Figures
+ledger lent = record { cause = ledgerCause lent; figures = ledgerFigures; done = ledgerDone }
 
-unfoldable pub ledgerLeaves : ℕ → List Record → Call → List Record
-ledgerLeaves lent rs c = ifDone (ledgerCause lent rs c) (ledgerDone rs c) rs
-
--- at first no records
 unfoldable pub ledgerAfter : ℕ → List Call → List Record
-ledgerAfter lent cs = after (ledgerLeaves lent) [] cs
+ledgerAfter lent cs = after (ledger lent) [] cs
 
-unfoldable pub ledgerAnswers : ℕ → List Call → List Posted
-ledgerAnswers lent cs = answers (ledgerAnswer lent) (ledgerLeaves lent) [] cs
+unfoldable pub ledgerAnswers : ℕ → List Call → List (Answer Figures)
+ledgerAnswers lent cs = answers noFigures (ledger lent) [] cs

@@ -1,4 +1,4 @@
--- Calls on a state, one after the other: the first gets the state, each later one what the one before left.
+-- Calls on a state and lists of them: the first call gets the state, each later one what the one before left.
 use mathlib.Core.List.{List, [], _∷_}
 use Prim.Native.Nat.{ℕ}
 use Rattle.numbers.specs.Causes.{ifDone}
@@ -9,9 +9,24 @@ pub record Machine (S C F : Type 0) : Type 0 where
   pub figures : S → C → F
   pub done : S → C → S
 
--- a refused call leaves the state as it was, and its other figures are `none`
-unfoldable pub leavesOf : {S C F : Type 0} → Machine S C F → S → C → S
-leavesOf m s c = ifDone (m .cause s c) (m .done s c) s
+-- what a call answers
+pub record Answer (F : Type 0) : Type 0 where
+  pub cause : ℕ
+  pub figures : F
 
-unfoldable pub figuresOf : {S C F : Type 0} → F → Machine S C F → S → C → F
-figuresOf none m s c = ifDone (m .cause s c) (m .figures s c) none
+module _ {S C F : Type 0} where
+  -- a refused call leaves the state as it was
+  unfoldable pub leavesOf : Machine S C F → S → C → S
+  leavesOf m s c = ifDone (m .cause s c) (m .done s c) s
+
+  -- and its other figures are those of `none`
+  unfoldable pub figuresOf : F → Machine S C F → S → C → F
+  figuresOf none m s c = ifDone (m .cause s c) (m .figures s c) none
+
+  unfoldable pub after : Machine S C F → S → List C → S
+  after m s [] = s
+  after m s (c ∷ cs) = after m (leavesOf m s c) cs
+
+  unfoldable pub answers : F → Machine S C F → S → List C → List (Answer F)
+  answers none m s [] = []
+  answers none m s (c ∷ cs) = record { cause = m .cause s c; figures = figuresOf none m s c } ∷ answers none m (leavesOf m s c) cs
