@@ -3,7 +3,9 @@ ghost use mathlib.Core.Path.{_≡_};
 ghost use lib.ListN.{length};
 ghost use Rattle.rules.specs.Entry.{keyOf};
 ghost use Rattle.rules.specs.Words.{isBook};
-ghost use Rattle.rules.specs.Book.{openCause, openWords, defaultCoefficient, defaultTolerance, postCause, postAnswer, postWords, withdrawCause, withdrawWords, countAnswer, noRead, readAnswer};
+ghost use Rattle.rules.specs.Book.{openCause, openWords, defaultCoefficient, defaultTolerance, countAnswer, noRead, readAnswer};
+ghost use Rattle.rules.specs.Calls.{causeOf, wordsAfter, postAnswer};
+ghost use Rattle.rules.specs.Calls as calls;
 use rules::Counted;
 use rules::EntryRead;
 use rules::Posted;
@@ -77,7 +79,7 @@ fn post_cause(
     counterparty: u32,
     amount: u64,
 ) -> u32
-    ensures { λ r. ⌜ r ≡ postCause (now (book .entry)) (keyOf party day «entry_type» counterparty) amount ⌝ }
+    ensures { λ r. ⌜ r ≡ causeOf (now (book .entry)) (calls.post (keyOf party day «entry_type» counterparty) amount) ⌝ }
 {
     if !is_book(book) {
         return NOT_A_BOOK;
@@ -106,7 +108,7 @@ pub fn post(
     amount: u64,
 ) -> Posted
     ensures answer { λ r. ⌜ r ≡ postAnswer (now (book .entry)) (keyOf party day «entry_type» counterparty) amount ⌝ }
-    ensures words { λ r. ⌜ now (book .exit) ≡ postWords (now (book .entry)) (keyOf party day «entry_type» counterparty) amount ⌝ }
+    ensures words { λ r. ⌜ now (book .exit) ≡ wordsAfter (now (book .entry)) (calls.post (keyOf party day «entry_type» counterparty) amount) ⌝ }
 {
     let cause = post_cause(book, party, day, entry_type, counterparty, amount);
     if cause != 0 {
@@ -123,7 +125,7 @@ pub fn post(
 }
 
 fn withdraw_cause(book: &[u32], number: u32) -> u32
-    ensures { λ r. ⌜ r ≡ withdrawCause (now (book .entry)) number ⌝ }
+    ensures { λ r. ⌜ r ≡ causeOf (now (book .entry)) (calls.withdraw number) ⌝ }
 {
     if !is_book(book) {
         return NOT_A_BOOK;
@@ -136,8 +138,8 @@ fn withdraw_cause(book: &[u32], number: u32) -> u32
 
 // Gives the entry of this number status 1. Its place is not used again.
 pub fn withdraw(book: &mut [u32], number: u32) -> u32
-    ensures answer { λ r. ⌜ r ≡ withdrawCause (now (book .entry)) number ⌝ }
-    ensures words { λ r. ⌜ now (book .exit) ≡ withdrawWords (now (book .entry)) number ⌝ }
+    ensures answer { λ r. ⌜ r ≡ causeOf (now (book .entry)) (calls.withdraw number) ⌝ }
+    ensures words { λ r. ⌜ now (book .exit) ≡ wordsAfter (now (book .entry)) (calls.withdraw number) ⌝ }
 {
     let cause = withdraw_cause(book, number);
     if cause != 0 {

@@ -14,10 +14,10 @@ use borrow.Author.Tests.{leb-true, leb-false, eqb-true}
 use Rattle.numbers.specs.Causes.{ifDone}
 use Rattle.numbers.proofs.TestLaws.{bool-cases}
 use Rattle.rules.specs.DayFile.{wordsOf}
+use Rattle.rules.proofs.LiftLaws.{SameView, cut-view}
 use Rattle.coding.specs.Bytes.{bytesOf, isWhole, onWords, withWords, yesNo}
 use Rattle.coding.specs.Coding.{overBytes, mostWords, wordsIn, countIn, Decoded}
 use Rattle.coding.proofs.BytesLaws.{Bytes, length-words, bytes-back, bytes-append, bytes-past}
-use Rattle.coding.proofs.CutLaws.{SameCalls, cut-same}
 
 -- how many words a book has
 pub count-most : (bs : List ℕ) → countIn bs ≤ 15363
@@ -76,8 +76,8 @@ pub full : 15363 ≤ mostWords
 unfolding mostWords
 full = omega arith
 
-pub words-cut : (bs : List ℕ) → SameCalls (take mostWords (wordsOf bs)) (wordsOf bs)
-words-cut bs = cut-same mostWords full (wordsOf bs)
+pub words-cut : (bs : List ℕ) → SameView (take mostWords (wordsOf bs)) (wordsOf bs)
+words-cut bs = cut-view mostWords full (wordsOf bs)
 
 -- on them a call answers as on the bytes: no words are no book
 pub on-words : {A : Type 0} {bs ws : List ℕ} {n : ℕ} → Decoded bs ws n → (f : List ℕ → A) (refused : A) → f [] ≡ refused → f (take mostWords (wordsOf bs)) ≡ f (wordsOf bs) → f (take n ws) ≡ onWords bs f refused

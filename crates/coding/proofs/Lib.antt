@@ -1,6 +1,5 @@
 -- Laws of bytes and words, and of a call on a book's bytes; the folders hold the proof of a function each.
 pub mod BytesLaws
 pub mod TableLaws
-pub mod CutLaws
 pub mod CodingLaws
 pub mod CallLaws

@@ -12,17 +12,18 @@ use Rattle.numbers.specs.Sums.{total, count}
 use Rattle.numbers.specs.Tests.{all}
 use Rattle.numbers.proofs.SumLaws.{total-append, count-le-length}
 use Rattle.numbers.proofs.TestLaws.{and-split, and-join, all-getD}
-use Rattle.rules.specs.Entry.{Record, noRecord, key, legal, cancelled}
+use Rattle.rules.specs.Entry.{Record, noRecord, withStatus, key, legal, cancelled}
 use Rattle.rules.specs.Words.{isBook, entries, countOf, coefficientOf, toleranceOf, decode, entryOk, laid}
-use Rattle.rules.specs.Book.{entryAt, readOf, restatused, placeOf}
+use Rattle.rules.specs.Book.{entryAt, readOf, placeOf}
+use Rattle.rules.specs.Stores.{restatused}
 use Rattle.rules.specs.Control.{Parties, isToCancel, cancelOf}
 use Rattle.rules.specs.declared.EntryRead.{EntryRead}
 use Rattle.rules.proofs.WordLaws.{Fits, IsLaid, laid-book, book-facts, book-laid, legal-bounds}
-use Rattle.rules.proofs.BookLaws.{entry-at-laid, restatused-laid, withStatus}
+use Rattle.rules.proofs.BookLaws.{entry-at-laid, restatused-laid}
 use Rattle.words.proofs.BookCode.{Placed, book-entry}
 use Rattle.flags.specs.Tables.{recordRead}
 use Rattle.control.specs.Passes.{cancelledWords}
-use Rattle.control.proofs.ControlLaws.{cancelOne, to-cancel-is-sale, one-legal}
+use Rattle.rules.proofs.CancelLaws.{cancelOne, to-cancel-is-sale, one-legal}
 
 -- the first entries as the pass leaves them, the others as they were
 unfoldable pub partly : Parties → ℕ → ℕ → List Record → List Record

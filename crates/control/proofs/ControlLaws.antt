@@ -16,56 +16,24 @@ use Rattle.numbers.specs.Causes.{unless}
 use Rattle.numbers.proofs.TestLaws.{bool-cases, and-split, and-join, or-right, every-holds, all-append, any-append}
 use Rattle.numbers.proofs.SumLaws.{total-append, total-map, total-cong}
 use Rattle.numbers.proofs.CauseLaws.{clear-all, unless-zero, done-else}
-use Rattle.rules.specs.Entry.{Record, noRecord, key, recordOf, legal, isStanding, isCancelled, isBilateral, isMark, cancelled, dayOk}
+use Rattle.rules.specs.Entry.{Record, noRecord, withStatus, key, isCancelled, isMark, cancelled}
 use Rattle.rules.specs.Words.{isBook, entries, countOf, coefficientOf, toleranceOf, roomIn, usedWords, laid}
 use Rattle.rules.specs.Book.{isClosed, isMarkOf, entryAt}
 use Rattle.rules.specs.Balance.{Volume, counted, countedTo, sumOf, boughtBy, tallyOf, balanceOf, balance, volumeTypes}
 use Rattle.rules.specs.Compared.{Each}
-use Rattle.rules.specs.Control.{Parties, isToCancel, cancelOf, firstPass, secondPass, afterFirst, afterSecond, markOf, controlledRecords, controlCause, cancelledEntries, controlWords}
+use Rattle.rules.specs.Control.{Parties, isToCancel, cancelOf, firstPass, secondPass, afterFirst, afterSecond, markOf, controlledRecords, cancelledEntries}
+use Rattle.rules.specs.Calls.{control, changed, causeOf, wordsAfter}
 use Rattle.rules.proofs.WordLaws.{book-facts, book-laid}
 use Rattle.rules.proofs.SumOrder.{forTests, toTests, counts-for, counts-to}
-use Rattle.rules.proofs.BookLaws.{Stays, laid-stays, cancel-legal, mark-legal, withStatus, length-snoc, entry-at}
-
--- the day's standing bilateral sales, counterparty above 0
-pub record IsSale (d : ℕ) (r : Record) : Type 0 where
-  pub stands : r .label .status ≡ 0
-  pub day : key r .day ≡ d
-  pub bilateral : isBilateral (key r) ≡ true
-
--- what one entry becomes in a pass
-abbrev pub cancelOne : Parties → ℕ → Record → Record
-cancelOne who d r = cond (isToCancel who d r) (withStatus cancelled r) r
+use Rattle.rules.proofs.BookLaws.{Stays, entry-at}
+use Rattle.rules.proofs.CancelLaws.{IsSale, cancelOne, to-cancel-is-sale, second-length, controlled-length}
+use Rattle.rules.proofs.CallLaws.{entries-count, done-words, done-stays, control-passes, control-cause}
 
 -- a record as a control may leave it: as it was, or cancelled where it was such a sale
 abbrev pub Cancels : ℕ → Record → Record → Type 0
 Cancels d r s = (s ≡ r) ⊎ (IsSale d r × (s ≡ withStatus cancelled r))
 
 module _ (who : Parties) (d : ℕ) where
-  pub to-cancel-is-sale : (r : Record) → isToCancel who d r ≡ true → IsSale d r
-  unfolding isToCancel
-  to-cancel-is-sale r e =
-      let h = every-holds (isStanding r ∷ eqb (key r .day) d ∷ isBilateral (key r) ∷ who (key r .party) ∷ []) e in
-      record { stands = eqb-true _ _ (h .0); day = eqb-true _ _ (h .1 .0); bilateral = h .1 .1 .0 }
-
-  pub cancel-length : (rs : List Record) → length (cancelOf who d rs) ≡ length rs
-  unfolding cancelOf
-  cancel-length [] = refl
-  cancel-length (r ∷ rs) = ap suc (cancel-length rs)
-
-  pub one-legal : (r : Record) → legal r ≡ true → legal (cancelOne who d r) ≡ true
-  one-legal r l =
-      elim (bool-cases (isToCancel who d r)) [
-        | inl e ↦ rw e (cancel-legal r l (to-cancel-is-sale r e .bilateral))
-        | inr e ↦ rw e l
-      ]
-
-  pub cancel-legals : (rs : List Record) → all legal rs ≡ true → all legal (cancelOf who d rs) ≡ true
-  unfolding cancelOf all
-  cancel-legals [] e = refl
-  cancel-legals (r ∷ rs) e =
-      let s = and-split (legal r) (all legal rs) e in
-      and-join _ _ (one-legal r (s .0)) (cancel-legals rs (s .1))
-
   one-cancels : (r : Record) → Cancels d r (cancelOne who d r)
   one-cancels r =
       elim (bool-cases (isToCancel who d r)) [
@@ -136,22 +104,6 @@ cancels-again d r s t (inr c) (inl e) = inr (c .0, e ∙ c .1)
 cancels-again d r s t (inr c) (inr k) = absurd (omega (arith, k .0 .stands, ap (λ x. x .label .status) (c .1)))
 
 module _ (R TM d : ℕ) (rs : List Record) where
-  pub second-length : length (afterSecond R TM d rs) ≡ length rs
-  unfolding afterSecond afterFirst
-  second-length = cancel-length (secondPass R TM d rs) d (afterFirst R TM d rs) ∙ cancel-length (firstPass R TM d rs) d rs
-
-  pub second-legals : all legal rs ≡ true → all legal (afterSecond R TM d rs) ≡ true
-  unfolding afterSecond afterFirst
-  second-legals l = cancel-legals (secondPass R TM d rs) d (afterFirst R TM d rs) (cancel-legals (firstPass R TM d rs) d rs l)
-
-  pub controlled-length : length (controlledRecords R TM d rs) ≡ length rs + 1
-  unfolding controlledRecords
-  controlled-length = length-snoc (afterSecond R TM d rs) (markOf d) ∙ ap (λ n. n + 1) second-length
-
-  pub controlled-legals : all legal rs ≡ true → d ≤ 36524 → all legal (controlledRecords R TM d rs) ≡ true
-  unfolding controlledRecords markOf all
-  controlled-legals l h = rw (all-append legal (afterSecond R TM d rs) (markOf d ∷ []), second-legals l, mark-legal d h)
-
   -- nothing changes but the status of such sales, and a mark comes last
   pub only-sales : Each (Cancels d) rs (afterSecond R TM d rs)
   unfolding afterSecond afterFirst cancelOf
@@ -198,59 +150,23 @@ module _ (R TM d : ℕ) (rs : List Record) where
   other-balances v coefficient tolerance p e h = ap₂ (balanceOf v coefficient tolerance) (other-tally p e h) (other-bought p e h)
 
 -- the call
-pub record ControlPasses (ws : List ℕ) (d : ℕ) : Type 0 where
-  pub is-book : isBook ws ≡ true
-  pub day : d ≤ 36524
-  pub not-closed : isClosed d (entries ws) ≡ false
-  pub room : countOf ws < roomIn (length ws)
-
-pub control-passes : (ws : List ℕ) (d : ℕ) → controlCause ws d ≡ 0 → ControlPasses ws d
-unfolding controlCause
-control-passes ws d e =
-    let c = clear-all (unless (isBook ws) 1 ∷ unless (dayOk d) 4 ∷ unless (not (isClosed d (entries ws))) 8 ∷ unless (ltb (countOf ws) (roomIn (length ws))) 9 ∷ []) e in
-    record {
-      is-book = unless-zero _ 0 (c .0);
-      day = leb-true _ _ (unless-zero _ 3 (c .1 .0));
-      not-closed = not-true _ (unless-zero _ 7 (c .1 .1 .0));
-      room = ltb-true _ _ (unless-zero _ 8 (c .1 .1 .1 .0));
-    }
-
 module _ (ws : List ℕ) (d : ℕ) where
   -- the records that a done control leaves
   abbrev pub left : List Record
   left = controlledRecords (coefficientOf ws) (toleranceOf ws) d (entries ws)
 
-  pub control-done : controlCause ws d ≡ 0 → controlWords ws d ≡ laid (coefficientOf ws) (toleranceOf ws) left ws
-  unfolding controlWords
-  control-done e = rw e
-
-  pub control-refused : controlCause ws d ≢ 0 → controlWords ws d ≡ ws
-  unfolding controlWords
-  control-refused h = done-else _ _ _ h
-
   -- a controlled book is a book
-  pub control-stays : controlCause ws d ≡ 0 → Stays ws (controlWords ws d) left (countOf ws + 1)
+  pub control-stays : causeOf ws (control d) ≡ 0 → Stays ws (wordsAfter ws (control d)) left (countOf ws + 1)
+  unfolding changed
   control-stays e =
-      let p = control-passes ws d e in
-      let f = book-facts ws (p .is-book) in
-      let n : length left ≡ countOf ws + 1 = controlled-length (coefficientOf ws) (toleranceOf ws) d (entries ws) ∙ ap (λ k. k + 1) (f .count) in
-      laid-stays
-      (record {
-        legals = controlled-legals (coefficientOf ws) (toleranceOf ws) d (entries ws) (f .legals) (p .day);
-        coefficient = f .coefficient;
-        tolerance = f .tolerance;
-        long = f .long;
-        room = rw n (omega (arith, p .room));
-      })
-      (control-done e)
-      n
+      let n : length left ≡ countOf ws + 1 = controlled-length (coefficientOf ws) (toleranceOf ws) d (entries ws) ∙ ap (λ k. k + 1) (entries-count ws) in
+      subst (Stays ws (wordsAfter ws (control d)) left) n (done-stays ws (control d) e)
 
   -- a second control of the day answers 8
-  pub control-again : controlCause ws d ≡ 0 → controlCause (controlWords ws d) d ≡ 8
-  unfolding controlCause
+  pub control-again : causeOf ws (control d) ≡ 0 → causeOf (wordsAfter ws (control d)) (control d) ≡ 8
   control-again e =
       let s = control-stays e in
-      rw (s .is-book, le-leb d 36524 (control-passes ws d e .day), s .holds, day-closed (coefficientOf ws) (toleranceOf ws) d (entries ws))
+      rw (control-cause, s .is-book, le-leb d 36524 (control-passes ws d e .day), s .holds, day-closed (coefficientOf ws) (toleranceOf ws) d (entries ws))
 
 each-at : {A : Type 0} (P : A → A → Type 0) (xs ys : List A) (z : A) (i : ℕ) → i < length xs → Each P xs ys → P (getD xs i z) (getD ys i z)
 each-at P [] ys z i h each = absurd (omega arith)
@@ -270,19 +186,20 @@ pub record OnlyThese (ws vs : List ℕ) (d : ℕ) : Type 0 where
   pub head : (getD vs 1 0 ≡ getD ws 1 0) × (getD vs 2 0 ≡ getD ws 2 0)
   pub past : drop (3 + 5 * (countOf ws + 1)) vs ≡ drop (3 + 5 * (countOf ws + 1)) ws
 
-module _ (ws : List ℕ) (d : ℕ) (e : controlCause ws d ≡ 0) where
-  entry-left : (i : ℕ) → i < countOf ws + 1 → entryAt (controlWords ws d) i ≡ getD (left ws d) i noRecord
+module _ (ws : List ℕ) (d : ℕ) (e : causeOf ws (control d) ≡ 0) where
+  entry-left : (i : ℕ) → i < countOf ws + 1 → entryAt (wordsAfter ws (control d)) i ≡ getD (left ws d) i noRecord
   entry-left i h =
       let s = control-stays ws d e in
-      entry-at (controlWords ws d) i (rw (s .count) h) ∙ ap (λ rs. getD rs i noRecord) (s .holds)
+      entry-at (wordsAfter ws (control d)) i (rw (s .count) h) ∙ ap (λ rs. getD rs i noRecord) (s .holds)
 
   -- what two laid books have in common is kept
   at-head : (i : ℕ) → getD (laid (coefficientOf ws) (toleranceOf ws) (left ws d) ws) i 0 ≡ getD (laid (coefficientOf ws) (toleranceOf ws) (entries ws) ws) i 0 →
-      getD (controlWords ws d) i 0 ≡ getD ws i 0
+      getD (wordsAfter ws (control d)) i 0 ≡ getD ws i 0
+  unfolding changed
   at-head i q =
-      ap (λ vs. getD vs i 0) (control-done ws d e) ∙ q ∙ sym (ap (λ vs. getD vs i 0) (book-laid ws (control-passes ws d e .is-book)))
+      ap (λ vs. getD vs i 0) (done-words ws (control d) e) ∙ q ∙ sym (ap (λ vs. getD vs i 0) (book-laid ws (control-passes ws d e .is-book)))
 
-  pub only-these : OnlyThese ws (controlWords ws d) d
+  pub only-these : OnlyThese ws (wordsAfter ws (control d)) d
   unfolding controlledRecords
   only-these =
       let s = control-stays ws d e in

@@ -18,16 +18,19 @@ use Rattle.numbers.proofs.SumLaws.{count-le-length}
 use Rattle.numbers.proofs.CauseLaws.{done-zero, done-else}
 use Rattle.rules.specs.Entry.{Record, keyOf, recordOf, legal, standing, markType, dayOk}
 use Rattle.rules.specs.Words.{isBook, entries, countOf, coefficientOf, toleranceOf, roomIn, usedWords, laid}
-use Rattle.rules.specs.Book.{isClosed, storedAt, posted, placeOf}
-use Rattle.rules.specs.Control.{Parties, detectedIn, isToCancel, cancelOf, isRepeatedBuyer, firstPass, afterFirst, secondPass, afterSecond, markOf, controlledRecords, controlCause, detectedParties, cancelledEntries, controlAnswer, controlWords}
+use Rattle.rules.specs.Book.{isClosed, placeOf}
+use Rattle.rules.specs.Stores.{storedAt, posted}
+use Rattle.rules.specs.Control.{Parties, detectedIn, isToCancel, cancelOf, isRepeatedBuyer, firstPass, afterFirst, secondPass, afterSecond, markOf, controlledRecords, detectedParties, cancelledEntries}
+use Rattle.rules.specs.Calls.{control, figuresOn, changed, causeOf, figuresAt, wordsAfter, controlAnswer}
 use Rattle.rules.specs.declared.Controlled.{Controlled}
 use Rattle.rules.proofs.WordLaws.{Fits, room-words, book-facts, book-laid}
 use Rattle.rules.proofs.BookLaws.{Stays, laid-stays, posted-book, mark-legal, length-snoc}
+use Rattle.rules.proofs.CancelLaws.{cancel-length, cancel-legals}
+use Rattle.rules.proofs.CallLaws.{refused-words, refused-figures, done-figures, done-words, control-passes, control-cause}
 use Rattle.flags.specs.Tables.{flagged, checked}
 use Rattle.control.specs.Passes.{everyone, cancelledWords, passOf}
 use Rattle.control.specs.declared.passes.Passed.{Passed}
 use Rattle.flags.proofs.FlagLaws.{no-party}
-use Rattle.control.proofs.ControlLaws.{cancel-length, cancel-legals, control-passes}
 
 -- everyone is asked in the first pass
 pub first-checked : (ws : List ℕ) (d : ℕ) → checked ws d everyone ≡ firstPass (coefficientOf ws) (toleranceOf ws) d (entries ws)
@@ -122,7 +125,7 @@ unfolding passOf
 pass-counts ws d who p n = ap₂ (λ x y. record { parties = x; entries = y }) p n
 
 -- the whole, call by call
-module _ (ws : List ℕ) (d : ℕ) (z : controlCause ws d ≡ 0) where
+module _ (ws : List ℕ) (d : ℕ) (z : causeOf ws (control d) ≡ 0) where
   abbrev R : ℕ
   R = coefficientOf ws
 
@@ -171,18 +174,18 @@ module _ (ws : List ℕ) (d : ℕ) (z : controlCause ws d ≡ 0) where
         more : countOf vs ≡ countOf ws → countOf ws ≤ countOf vs + 1
         more e = omega arith
 
-        pub run-words : {xs : List ℕ} → xs ≡ posted vs (keyOf 0 d markType 0) 0 → xs ≡ controlWords ws d
-        unfolding controlWords controlledRecords
+        pub run-words : {xs : List ℕ} → xs ≡ posted vs (keyOf 0 d markType 0) 0 → xs ≡ wordsAfter ws (control d)
+        unfolding changed controlledRecords
         run-words x =
             let s = after-second in
             let m = mark-stays vs (s .is-book) d mark-room (control-passes ws d z .day) in
-            x ∙ stays-laid (stays-after (more (s .count)) s m) ∙ rw (z, s .holds)
+            x ∙ stays-laid (stays-after (more (s .count)) s m) ∙ rw (s .holds) (sym (done-words ws (control d) z))
 
       -- its counts
       module _ {first second : Passed} (m : first ≡ passOf (flagged sellers) d ws) (n : second ≡ passOf (flagged buyers) d us) where
         pub run-answers : _≡_ {A = Controlled} (record { answer = 0; first = first .parties; second = second .parties; cancelled = first .entries + second .entries }) (controlAnswer ws d)
-        unfolding controlAnswer cancelledEntries passOf
-        run-answers = rw (z, m, n, after-first .holds, sellers-are, buyers-are)
+        unfolding figuresOn cancelledEntries passOf
+        run-answers = rw (z, done-figures ws (control d) z, m, n, after-first .holds, sellers-are, buyers-are)
 
         pub run-fits : first .entries + second .entries ≤ 6144
         run-fits =
@@ -190,32 +193,23 @@ module _ (ws : List ℕ) (d : ℕ) (z : controlCause ws d ≡ 0) where
 
 -- why it comes back
 module _ (ws : List ℕ) (d : ℕ) where
-  pub cause-book : isBook ws ≡ false → 1 ≡ controlCause ws d
-  unfolding controlCause
-  cause-book e = rw e
+  pub cause-book : isBook ws ≡ false → 1 ≡ causeOf ws (control d)
+  cause-book e = rw (control-cause, e)
 
-  pub cause-day : isBook ws ≡ true → dayOk d ≡ false → 4 ≡ controlCause ws d
-  unfolding controlCause
-  cause-day b e = rw (b, e)
+  pub cause-day : isBook ws ≡ true → dayOk d ≡ false → 4 ≡ causeOf ws (control d)
+  cause-day b e = rw (control-cause, b, e)
 
-  pub cause-closed : isBook ws ≡ true → dayOk d ≡ true → isClosed d (entries ws) ≡ true → 8 ≡ controlCause ws d
-  unfolding controlCause
-  cause-closed b h e = rw (b, h, e)
+  pub cause-closed : isBook ws ≡ true → dayOk d ≡ true → isClosed d (entries ws) ≡ true → 8 ≡ causeOf ws (control d)
+  cause-closed b h e = rw (control-cause, b, h, e)
 
-  pub cause-room : isBook ws ≡ true → dayOk d ≡ true → isClosed d (entries ws) ≡ false → roomIn (length ws) ≤ countOf ws → 9 ≡ controlCause ws d
-  unfolding controlCause
-  cause-room b h c e = rw (b, h, c, le-ltb (countOf ws) (roomIn (length ws)) e)
+  pub cause-room : isBook ws ≡ true → dayOk d ≡ true → isClosed d (entries ws) ≡ false → roomIn (length ws) ≤ countOf ws → 9 ≡ causeOf ws (control d)
+  cause-room b h c e = rw (control-cause, b, h, c, le-ltb (countOf ws) (roomIn (length ws)) e)
 
-  pub cause-none : isBook ws ≡ true → dayOk d ≡ true → isClosed d (entries ws) ≡ false → countOf ws < roomIn (length ws) → 0 ≡ controlCause ws d
-  unfolding controlCause
-  cause-none b h c e = rw (b, h, c, lt-ltb (countOf ws) (roomIn (length ws)) e)
+  pub cause-none : isBook ws ≡ true → dayOk d ≡ true → isClosed d (entries ws) ≡ false → countOf ws < roomIn (length ws) → 0 ≡ causeOf ws (control d)
+  cause-none b h c e = rw (control-cause, b, h, c, lt-ltb (countOf ws) (roomIn (length ws)) e)
 
-  pub refused : {cause : ℕ} → cause ≡ controlCause ws d → (cause ≡ 0 → ⊥) →
-      (_≡_ {A = Controlled} (record { answer = cause; first = 0; second = 0; cancelled = 0 }) (controlAnswer ws d)) × (ws ≡ controlWords ws d)
-  unfolding controlAnswer controlWords
-  refused {cause} e h = go cause e h
-    where
-      go : (k : ℕ) → k ≡ controlCause ws d → (k ≡ 0 → ⊥) →
-          (_≡_ {A = Controlled} (record { answer = k; first = 0; second = 0; cancelled = 0 }) (controlAnswer ws d)) × (ws ≡ controlWords ws d)
-      go zero q n = absurd (n refl)
-      go (suc k) q n = rw (← q) (refl, refl)
+  pub refused : {cause : ℕ} → cause ≡ causeOf ws (control d) → (cause ≡ 0 → ⊥) →
+      (_≡_ {A = Controlled} (record { answer = cause; first = 0; second = 0; cancelled = 0 }) (controlAnswer ws d)) × (ws ≡ wordsAfter ws (control d))
+  refused e h =
+      let n : causeOf ws (control d) ≡ 0 → ⊥ = λ q. h (e ∙ q) in
+      (rw (refused-figures ws (control d) n) (ap (λ k. record { answer = k; first = 0; second = 0; cancelled = 0 }) e), sym (refused-words ws (control d) n))

@@ -1,6 +1,7 @@
 // Control of a day (document 01, 'Control of a day').
 ghost use mathlib.Core.Path.{_≡_};
-ghost use Rattle.rules.specs.Control.{controlCause, controlAnswer, controlWords};
+ghost use Rattle.rules.specs.Calls.{causeOf, wordsAfter, controlAnswer};
+ghost use Rattle.rules.specs.Calls as calls;
 use flags::pairs;
 use flags::sums;
 use flags::sums::NUMBERS;
@@ -10,7 +11,7 @@ use words::refusals;
 mod passes;
 
 fn control_cause(book: &[u32], day: u32) -> u32
-    ensures { λ r. ⌜ r ≡ controlCause (now (book .entry)) day ⌝ }
+    ensures { λ r. ⌜ r ≡ causeOf (now (book .entry)) (calls.control day) ⌝ }
 {
     if !book::is_book(book) {
         return refusals::NOT_A_BOOK;
@@ -30,9 +31,9 @@ fn control_cause(book: &[u32], day: u32) -> u32
 
 // First pass: every party, by the book at entry. Second pass: the buyers of repeated pairs, by the book after the first.
 fn run(book: &mut [u32], day: u32) -> Controlled
-    requires { ⌜ controlCause (now book) day ≡ 0 ⌝ }
+    requires { ⌜ causeOf (now book) (calls.control day) ≡ 0 ⌝ }
     ensures answer { λ r. ⌜ r ≡ controlAnswer (now (book .entry)) day ⌝ }
-    ensures words { λ r. ⌜ now (book .exit) ≡ controlWords (now (book .entry)) day ⌝ }
+    ensures words { λ r. ⌜ now (book .exit) ≡ wordsAfter (now (book .entry)) (calls.control day) ⌝ }
 {
     let everyone = [true; NUMBERS];
     let mut sellers = [false; NUMBERS];
@@ -55,7 +56,7 @@ fn run(book: &mut [u32], day: u32) -> Controlled
 // Cancels the bilateral sales of detected parties and closes the day.
 pub fn control(book: &mut [u32], day: u32) -> Controlled
     ensures answer { λ r. ⌜ r ≡ controlAnswer (now (book .entry)) day ⌝ }
-    ensures words { λ r. ⌜ now (book .exit) ≡ controlWords (now (book .entry)) day ⌝ }
+    ensures words { λ r. ⌜ now (book .exit) ≡ wordsAfter (now (book .entry)) (calls.control day) ⌝ }
 {
     let cause = control_cause(book, day);
     if cause != 0 {

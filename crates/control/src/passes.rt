@@ -6,7 +6,7 @@ ghost use lib.ListN.{length};
 ghost use Rattle.numbers.specs.Sums.{count};
 ghost use Rattle.rules.specs.Entry.{keyOf, markType, lastParty, lastDay};
 ghost use Rattle.rules.specs.Words.{isBook, entries, countOf, roomIn};
-ghost use Rattle.rules.specs.Book.{posted};
+ghost use Rattle.rules.specs.Stores.{posted};
 ghost use Rattle.rules.specs.Control.{isToCancel, detectedParties};
 ghost use Rattle.flags.specs.Tables.{flagged, recordRead};
 ghost use Rattle.control.specs.Passes.{cancelledWords, passOf};

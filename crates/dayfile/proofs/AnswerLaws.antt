@@ -1,8 +1,9 @@
 -- The answer to a file, from the closed days in a table and a scan of its items. Assumes nothing.
-use mathlib.Core.Path.{_≡_, refl, _∙_, ap, ap₂}
+use mathlib.Core.Path.{_≡_, refl, sym, _∙_, ap, ap₂}
 use mathlib.Core.Bool.{Bool, true, false}
 use mathlib.Core.List.{List, [], _∷_, map}
 use Prim.Native.Nat.{ℕ, zero, suc, _+_, _-_, _%_, _≤_, _<_}
+use native.Mathlib.Nat.{suc-ne-zero}
 use native.Mathlib.Omega.{arith}
 use lib.Dec.{eqb, leb}
 use lib.ListN.{length, getD}
@@ -13,9 +14,11 @@ use Rattle.numbers.proofs.CauseLaws.{else-stop, else-none}
 use Rattle.rules.specs.Entry.{Record, fault}
 use Rattle.rules.specs.Words.{isBook, entries, countOf, roomIn}
 use Rattle.rules.specs.Book.{isClosed, shutTo}
-use Rattle.rules.specs.DayFile.{Item, line, emptyBlock, itemCause, items, linesOf, isFile, isShaped, wordsOf, fileCause, fileAnswer}
+use Rattle.rules.specs.DayFile.{Item, line, emptyBlock, itemCause, items, linesOf, isFile, isShaped, wordsOf}
+use Rattle.rules.specs.Calls.{file, figuresOn, causeOf, figuresAt, fileAnswer}
 use Rattle.rules.specs.declared.FileRead.{FileRead}
 use Rattle.rules.proofs.WordLaws.{no-fault}
+use Rattle.rules.proofs.CallLaws.{file-cause, refused-figures, done-figures}
 use Rattle.dayfile.specs.Check.{tableDays, nonePosted, causeBy, firstCause, scanned}
 
 -- a file is no longer than a file may be
@@ -41,18 +44,21 @@ causes-by-table : (cs : List Bool) (rs : List Record) → TableOf cs rs → (is 
 causes-by-table cs rs t [] = refl
 causes-by-table cs rs t (i ∷ is) = ap₂ orElse (cause-by-table cs rs t i) (causes-by-table cs rs t is)
 
-module _ (ws bs : List ℕ) (cs : List Bool) (book : isBook ws ≡ true) (file : isFile bs ≡ true) (table : TableOf cs (entries ws)) where
-  cause-of-file : fileCause ws bs ≡ orElse (firstCause cs (items bs)) (unless (leb (countOf ws + length (linesOf (items bs))) (roomIn (length ws))) 9)
-  unfolding fileCause
-  cause-of-file = rw (book, file, causes-by-table cs (entries ws) table (items bs), else-none (unless (leb (countOf ws + length (linesOf (items bs))) (roomIn (length ws))) 9))
+module _ (ws bs : List ℕ) (cs : List Bool) (book : isBook ws ≡ true) (shaped : isFile bs ≡ true) (table : TableOf cs (entries ws)) where
+  cause-of-file : causeOf ws (file bs) ≡ orElse (firstCause cs (items bs)) (unless (leb (countOf ws + length (linesOf (items bs))) (roomIn (length ws))) 9)
+  cause-of-file = rw (file-cause, book, shaped, causes-by-table cs (entries ws) table (items bs), else-none (unless (leb (countOf ws + length (linesOf (items bs))) (roomIn (length ws))) 9))
 
   abbrev linesIn : ℕ
   linesIn = length (linesOf (items bs))
 
   -- the answer by its cause
-  answer-by : {k n : ℕ} → fileCause ws bs ≡ k → ifDone k linesIn 0 ≡ n → _≡_ {A = FileRead} (record { answer = k; posted = n }) (fileAnswer ws bs)
-  unfolding fileAnswer
-  answer-by e q = rw (e, q)
+  answer-by : {k n : ℕ} → causeOf ws (file bs) ≡ k → ifDone k linesIn 0 ≡ n → _≡_ {A = FileRead} (record { answer = k; posted = n }) (fileAnswer ws bs)
+  unfolding figuresOn
+  answer-by {k} {n} e q = go k e q
+    where
+      go : (j : ℕ) → causeOf ws (file bs) ≡ j → ifDone j linesIn 0 ≡ n → _≡_ {A = FileRead} (record { answer = j; posted = n }) (fileAnswer ws bs)
+      go zero z h = rw (z, done-figures ws (file bs) z, ← h)
+      go (suc j) z h = rw (refused-figures ws (file bs) (λ y. suc-ne-zero j (sym z ∙ y)), z, ← h)
 
   module _ {r : FileRead} (scan : r ≡ scanned cs (items bs)) where
     first : r .answer ≡ firstCause cs (items bs)

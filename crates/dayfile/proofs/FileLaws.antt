@@ -1,8 +1,9 @@
 -- What reading a file answers and leaves, by its causes in order. Assumes nothing.
 use mathlib.Core.Path.{_≡_, sym, _∙_, ap}
 use mathlib.Core.Bool.{true, false}
-use mathlib.Core.List.{List, [], _∷_, _++_, map}
-use Prim.Native.Nat.{ℕ, _+_, _*_, _≤_}
+use mathlib.Core.List.{List}
+use Prim.Native.Nat.{ℕ, suc, _+_, _*_, _≤_}
+use native.Mathlib.Nat.{suc-ne-zero}
 use native.Mathlib.Omega.{arith}
 use lib.Dec.{leb}
 use lib.ListN.{length, set, length-append}
@@ -13,58 +14,47 @@ use Rattle.numbers.proofs.TestLaws.{all-append}
 use Rattle.numbers.proofs.CauseLaws.{clear-all, unless-zero, done-else}
 use Rattle.rules.specs.Entry.{legal}
 use Rattle.rules.specs.Words.{word, isBook, entries, countOf, roomIn}
-use Rattle.rules.specs.DayFile.{itemCause, items, linesOf, isFile, fileCause, fileAnswer, fileWords}
+use Rattle.rules.specs.DayFile.{items, linesOf, isFile}
+use Rattle.rules.specs.Calls.{file, figuresOn, changed, causeOf, figuresAt, wordsAfter, fileAnswer}
 use Rattle.rules.specs.declared.FileRead.{FileRead}
 use Rattle.rules.proofs.WordLaws.{book-facts, room-words}
-use Rattle.rules.proofs.BookLaws.{Stays, laid-stays}
+use Rattle.rules.proofs.CancelLaws.{lines-legal}
+use Rattle.rules.proofs.CallLaws.{FilePasses, file-passes, file-cause, refused-words, refused-figures, done-figures, done-words}
 use Rattle.dayfile.specs.Check.{nonePosted, storedFrom}
-use Rattle.dayfile.proofs.PostLaws.{posted-all, lines-legal}
+use Rattle.dayfile.proofs.PostLaws.{posted-all}
 
 abbrev Answers : FileRead → List ℕ → List ℕ → List ℕ → Type 0
-Answers r vs ws bs = (r ≡ fileAnswer ws bs) × (vs ≡ fileWords ws bs)
+Answers r vs ws bs = (r ≡ fileAnswer ws bs) × (vs ≡ wordsAfter ws (file bs))
+
+-- a file that is refused is not read
+refused : (ws bs : List ℕ) (k : ℕ) → causeOf ws (file bs) ≡ suc k → Answers (nonePosted (suc k)) ws ws bs
+refused ws bs k e =
+    let n : causeOf ws (file bs) ≡ 0 → ⊥ = λ z. suc-ne-zero k (sym e ∙ z) in
+    (rw (refused-figures ws (file bs) n, e), sym (refused-words ws (file bs) n))
 
 pub not-a-book : (ws bs : List ℕ) → isBook ws ≡ false → Answers (nonePosted 1) ws ws bs
-unfolding fileAnswer fileWords fileCause
-not-a-book ws bs b = (rw b, rw b)
+not-a-book ws bs b = refused ws bs 0 (rw (file-cause, b))
 
 pub not-a-file : (ws bs : List ℕ) → isBook ws ≡ true → isFile bs ≡ false → Answers (nonePosted 2) ws ws bs
-unfolding fileAnswer fileWords fileCause
-not-a-file ws bs b f = (rw (b, f), rw (b, f))
-
--- a file that is read is refused by no cause
-pub record FilePasses (ws bs : List ℕ) : Type 0 where
-  pub is-book : isBook ws ≡ true
-  pub is-file : isFile bs ≡ true
-  pub faultless : firstOf (map (itemCause (entries ws)) (items bs)) ≡ 0
-  pub room : countOf ws + length (linesOf (items bs)) ≤ roomIn (length ws)
-
-pub file-passes : (ws bs : List ℕ) → fileCause ws bs ≡ 0 → FilePasses ws bs
-unfolding fileCause
-file-passes ws bs e =
-    let c = clear-all (unless (isBook ws) 1 ∷ unless (isFile bs) 2 ∷ firstOf (map (itemCause (entries ws)) (items bs)) ∷ unless (leb (countOf ws + length (linesOf (items bs))) (roomIn (length ws))) 9 ∷ []) e in
-    record {
-      is-book = unless-zero _ 0 (c .0);
-      is-file = unless-zero _ 1 (c .1 .0);
-      faultless = c .1 .1 .0;
-      room = leb-true _ _ (unless-zero _ 8 (c .1 .1 .1 .0));
-    }
+not-a-file ws bs b f = refused ws bs 1 (rw (file-cause, b, f))
 
 module _ (ws bs : List ℕ) {r : FileRead} (e : r ≡ fileAnswer ws bs) where
-  cause-is : r .answer ≡ fileCause ws bs
-  unfolding fileAnswer
+  cause-is : r .answer ≡ causeOf ws (file bs)
   cause-is = ap (λ x. x .answer) e
 
-  pub refused-words : (r .answer ≡ 0 → ⊥) → ws ≡ fileWords ws bs
-  unfolding fileWords
-  refused-words n = sym (done-else (fileCause ws bs) _ ws (λ z. n (cause-is ∙ z)))
+  pub left-as-was : (r .answer ≡ 0 → ⊥) → ws ≡ wordsAfter ws (file bs)
+  left-as-was n = sym (refused-words ws (file bs) (λ z. n (cause-is ∙ z)))
 
   module _ (z : r .answer ≡ 0) where
+    done : causeOf ws (file bs) ≡ 0
+    done = sym cause-is ∙ z
+
     pub done-passes : FilePasses ws bs
-    done-passes = file-passes ws bs (sym cause-is ∙ z)
+    done-passes = file-passes ws bs done
 
     pub done-posted : r .posted ≡ length (linesOf (items bs))
-    unfolding fileAnswer
-    done-posted = ap (λ x. x .posted) e ∙ rw (← cause-is, z)
+    unfolding figuresOn
+    done-posted = ap (λ x. x .posted) e ∙ ap (λ f. f .lines) (done-figures ws (file bs) done)
 
     pub done-legal : all legal (linesOf (items bs)) ≡ true
     done-legal = lines-legal (entries ws) (items bs) (done-passes .faultless)
@@ -76,29 +66,7 @@ module _ (ws bs : List ℕ) {r : FileRead} (e : r ≡ fileAnswer ws bs) where
     pub done-count : countOf ws + r .posted ≤ 3072
     done-count = rw done-posted (omega (arith, done-passes .room))
 
-    pub done-words : {vs : List ℕ} → vs ≡ storedFrom ws (3 + 5 * countOf ws) (items bs) → set vs 0 (word 6 (countOf ws + r .posted)) ≡ fileWords ws bs
-    unfolding fileWords
-    done-words w =
-        rw (w, done-posted, ← cause-is, z) (posted-all ws (items bs) (done-passes .is-book) (done-passes .room))
-
--- the law 'stays': what a file that is read leaves is a book of the entries and the lines
-pub file-stays : (ws bs : List ℕ) → fileCause ws bs ≡ 0 → Stays ws (fileWords ws bs) (entries ws ++ linesOf (items bs)) (countOf ws + length (linesOf (items bs)))
-unfolding fileWords
-file-stays ws bs e =
-    let p = file-passes ws bs e in
-    let f = book-facts ws (p .is-book) in
-    let n : length (entries ws ++ linesOf (items bs)) ≡ countOf ws + length (linesOf (items bs)) = length-append (entries ws) (linesOf (items bs)) ∙ ap (λ m. m + length (linesOf (items bs))) (f .count) in
-    laid-stays
-    (record {
-      legals = rw (all-append legal (entries ws) (linesOf (items bs)), f .legals, lines-legal (entries ws) (items bs) (p .faultless));
-      coefficient = f .coefficient;
-      tolerance = f .tolerance;
-      long = f .long;
-      room = rw n (p .room);
-    })
-    (rw e)
-    n
-
-pub file-refused : (ws bs : List ℕ) → (fileCause ws bs ≡ 0 → ⊥) → fileWords ws bs ≡ ws
-unfolding fileWords
-file-refused ws bs n = done-else (fileCause ws bs) _ ws n
+    pub done-stores : {vs : List ℕ} → vs ≡ storedFrom ws (3 + 5 * countOf ws) (items bs) → set vs 0 (word 6 (countOf ws + r .posted)) ≡ wordsAfter ws (file bs)
+    unfolding changed
+    done-stores w =
+        rw (w, done-posted, posted-all ws (items bs) (done-passes .is-book) (done-passes .room)) (sym (done-words ws (file bs) done))

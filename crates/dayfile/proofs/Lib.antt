@@ -3,4 +3,3 @@ pub mod CheckLaws
 pub mod AnswerLaws
 pub mod PostLaws
 pub mod FileLaws
-pub mod RangeLaws

@@ -15,7 +15,7 @@ use Rattle.numbers.proofs.CauseLaws.{else-split}
 use Rattle.numbers.proofs.ListLaws.{drop-past}
 use Rattle.rules.specs.Entry.{Key, Record, recordOf, standing, legal, fault}
 use Rattle.rules.specs.Words.{word, encode, encodeAll, usedWords, laid, isBook, entries, countOf, coefficientOf, toleranceOf, roomIn}
-use Rattle.rules.specs.Book.{storedAt}
+use Rattle.rules.specs.Stores.{storedAt}
 use Rattle.rules.specs.DayFile.{Item, line, emptyBlock, headItem, itemCause, linesOf}
 use Rattle.rules.proofs.WordLaws.{book-facts, book-laid, laid-used, encode-all-append, room-words}
 use Rattle.rules.proofs.BookLaws.{stored-words, new-legal}
@@ -98,14 +98,3 @@ posted-all ws is b room =
     let l = room-words (countOf ws + n) (length ws) (f .long) room in
     let e : 3 + 5 * (countOf ws + n) ≡ 3 + 5 * countOf ws + 5 * n = omega arith in
     rw (stored-all is ws (3 + 5 * countOf ws) (omega arith), used-words ws b, length-append (entries ws) (linesOf is), f .count, encode-all-append (entries ws) (linesOf is), e, append-assoc (encodeAll (entries ws)) (encodeAll (linesOf is)) (drop (3 + 5 * countOf ws + 5 * n) ws))
-
--- lines that no cause refuses are legal records
-pub lines-legal : (rs : List Record) (is : List Item) → firstOf (map (itemCause rs) is) ≡ 0 → all legal (linesOf is) ≡ true
-unfolding linesOf all itemCause
-lines-legal rs [] e = refl
-lines-legal rs (line k a ∷ is) e =
-    let s = else-split (itemCause rs (line k a)) (firstOf (map (itemCause rs) is)) e in
-    let f = else-split (fault k a) _ (s .0) in
-    and-join (legal (recordOf k standing a)) (all legal (linesOf is)) (new-legal k a (f .0)) (lines-legal rs is (s .1))
-lines-legal rs (emptyBlock p d ∷ is) e =
-    lines-legal rs is (else-split (itemCause rs (emptyBlock p d)) (firstOf (map (itemCause rs) is)) e .1)

@@ -7,7 +7,7 @@ use lib.ListN.{length, getD}
 use Rattle.numbers.specs.Causes.{unless, firstOf, ifDone}
 use Rattle.rules.specs.Refusals.{dayClosed}
 use Rattle.rules.specs.Entry.{fault, isBilateral}
-use Rattle.rules.specs.Book.{storedAt}
+use Rattle.rules.specs.Stores.{storedAt}
 use Rattle.rules.specs.DayFile.{Item, line, emptyBlock, itemCause, linesOf}
 use Rattle.rules.specs.declared.FileRead.{FileRead}
 use Rattle.fileform.specs.declared.Cursor.{Cursor}

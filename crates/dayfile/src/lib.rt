@@ -1,6 +1,8 @@
 // The day file: lines posted into a book, all or none (document 01, 'Day file').
 ghost use mathlib.Core.Path.{_≡_};
-ghost use Rattle.rules.specs.DayFile.{isFile, fileAnswer, fileWords};
+ghost use Rattle.rules.specs.DayFile.{isFile};
+ghost use Rattle.rules.specs.Calls.{wordsAfter, fileAnswer};
+ghost use Rattle.rules.specs.Calls as calls;
 ghost use Rattle.dayfile.specs.Check.{nonePosted};
 use fileform::walk;
 use rules::FileRead;
@@ -42,7 +44,7 @@ fn refused(cause: u32) -> FileRead
 // Posts the lines of a file into a book: all of them or none.
 pub fn read_file(book: &mut [u32], file: &[u8]) -> FileRead
     ensures answer { λ r. ⌜ r ≡ fileAnswer (now (book .entry)) (now (file .entry)) ⌝ }
-    ensures words { λ r. ⌜ now (book .exit) ≡ fileWords (now (book .entry)) (now (file .entry)) ⌝ }
+    ensures words { λ r. ⌜ now (book .exit) ≡ wordsAfter (now (book .entry)) (calls.file (now (file .entry))) ⌝ }
 {
     if !book::is_book(book) {
         return refused(NOT_A_BOOK);

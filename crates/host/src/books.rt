@@ -4,7 +4,9 @@ ghost use lib.ListN.{length};
 ghost use Rattle.rules.specs.Entry.{keyOf};
 ghost use Rattle.rules.specs.Words.{isBook};
 ghost use Rattle.rules.specs.Refusals.{notABook};
-ghost use Rattle.rules.specs.Book.{openCause, openWords, defaultCoefficient, defaultTolerance, postAnswer, postWords, withdrawCause, withdrawWords, countAnswer, noRead, readAnswer};
+ghost use Rattle.rules.specs.Book.{openCause, openWords, defaultCoefficient, defaultTolerance, countAnswer, noRead, readAnswer};
+ghost use Rattle.rules.specs.Calls.{causeOf, wordsAfter, postAnswer};
+ghost use Rattle.rules.specs.Calls as calls;
 ghost use Rattle.coding.specs.Bytes.{onWords, withWords, yesNo};
 use rules::Counted;
 use rules::EntryRead;
@@ -57,7 +59,7 @@ pub extern "C" fn fanzsoreb_post(
     amount: u64,
 ) -> Posted
     ensures answer { λ r. ⌜ r ≡ onWords (now (book .entry)) (λ ws. postAnswer ws (keyOf party day «entry_type» counterparty) amount) (record { answer = notABook; number = 0 }) ⌝ }
-    ensures bytes { λ r. ⌜ now (book .exit) ≡ withWords (now (book .entry)) (λ ws. postWords ws (keyOf party day «entry_type» counterparty) amount) ⌝ }
+    ensures bytes { λ r. ⌜ now (book .exit) ≡ withWords (now (book .entry)) (λ ws. wordsAfter ws (calls.post (keyOf party day «entry_type» counterparty) amount)) ⌝ }
 {
     let mut words = [0u32; coding::WORDS];
     let n = coding::decode(book, &mut words);
@@ -76,8 +78,8 @@ pub extern "C" fn fanzsoreb_post(
 // Gives the entry of this number status 1.
 #[no_mangle]
 pub extern "C" fn fanzsoreb_withdraw(book: &mut [u8], number: u32) -> u32
-    ensures answer { λ r. ⌜ r ≡ onWords (now (book .entry)) (λ ws. withdrawCause ws number) notABook ⌝ }
-    ensures bytes { λ r. ⌜ now (book .exit) ≡ withWords (now (book .entry)) (λ ws. withdrawWords ws number) ⌝ }
+    ensures answer { λ r. ⌜ r ≡ onWords (now (book .entry)) (λ ws. causeOf ws (calls.withdraw number)) notABook ⌝ }
+    ensures bytes { λ r. ⌜ now (book .exit) ≡ withWords (now (book .entry)) (λ ws. wordsAfter ws (calls.withdraw number)) ⌝ }
 {
     let mut words = [0u32; coding::WORDS];
     let n = coding::decode(book, &mut words);

@@ -1,8 +1,8 @@
 // Control of a day, and a day file read into a book in lent bytes (document 01, 'Control of a day', 'Day file').
 ghost use mathlib.Core.Path.{_≡_};
 ghost use Rattle.rules.specs.Refusals.{notABook};
-ghost use Rattle.rules.specs.Control.{controlAnswer, controlWords};
-ghost use Rattle.rules.specs.DayFile.{fileAnswer, fileWords};
+ghost use Rattle.rules.specs.Calls.{wordsAfter, controlAnswer, fileAnswer};
+ghost use Rattle.rules.specs.Calls as calls;
 ghost use Rattle.coding.specs.Bytes.{onWords, withWords};
 use rules::Controlled;
 use rules::FileRead;
@@ -11,7 +11,7 @@ use rules::FileRead;
 #[no_mangle]
 pub extern "C" fn fanzsoreb_read_file(book: &mut [u8], file: &[u8]) -> FileRead
     ensures answer { λ r. ⌜ r ≡ onWords (now (book .entry)) (λ ws. fileAnswer ws (now (file .entry))) (record { answer = notABook; posted = 0 }) ⌝ }
-    ensures bytes { λ r. ⌜ now (book .exit) ≡ withWords (now (book .entry)) (λ ws. fileWords ws (now (file .entry))) ⌝ }
+    ensures bytes { λ r. ⌜ now (book .exit) ≡ withWords (now (book .entry)) (λ ws. wordsAfter ws (calls.file (now (file .entry)))) ⌝ }
 {
     let mut words = [0u32; coding::WORDS];
     let n = coding::decode(book, &mut words);
@@ -24,7 +24,7 @@ pub extern "C" fn fanzsoreb_read_file(book: &mut [u8], file: &[u8]) -> FileRead
 #[no_mangle]
 pub extern "C" fn fanzsoreb_control(book: &mut [u8], day: u32) -> Controlled
     ensures answer { λ r. ⌜ r ≡ onWords (now (book .entry)) (λ ws. controlAnswer ws day) (record { answer = notABook; first = 0; second = 0; cancelled = 0 }) ⌝ }
-    ensures bytes { λ r. ⌜ now (book .exit) ≡ withWords (now (book .entry)) (λ ws. controlWords ws day) ⌝ }
+    ensures bytes { λ r. ⌜ now (book .exit) ≡ withWords (now (book .entry)) (λ ws. wordsAfter ws (calls.control day)) ⌝ }
 {
     let mut words = [0u32; coding::WORDS];
     let n = coding::decode(book, &mut words);

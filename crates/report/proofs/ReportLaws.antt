@@ -11,11 +11,12 @@ use lib.Seq.{length-take-le}
 use borrow.Author.Tests.{le-leb}
 use Rattle.numbers.specs.Causes.{ifDone}
 use Rattle.numbers.proofs.CauseLaws.{done-else}
-use Rattle.rules.specs.DayFile.{fileCause, fileAnswer, fileWords, fileNames}
+use Rattle.rules.specs.DayFile.{fileNames}
+use Rattle.rules.specs.Calls.{file, causeOf, wordsAfter, fileAnswer}
 use Rattle.rules.specs.declared.FileRead.{FileRead}
+use Rattle.rules.proofs.CallLaws.{done-stays}
 use Rattle.names.specs.Names.{namesParty}
 use Rattle.names.proofs.NameLaws.{not-named}
-use Rattle.dayfile.proofs.FileLaws.{file-stays}
 use Rattle.rules.specs.Words.{isBook, entries, coefficientOf, toleranceOf}
 use Rattle.rules.specs.Balance.{Volume, balanceOf, balanceAnswer, partyDayCause}
 use Rattle.rules.specs.declared.TallyAnswer.{TallyAnswer}
@@ -58,20 +59,19 @@ table-lines bs ws p days t = each-same _ _ 36525 0 (λ d h. rw (t d (omega arith
 
 -- the report by the answer to the file
 module _ (ws bs : List ℕ) {r : FileRead} (e : r ≡ fileAnswer ws bs) where
-  cause-is : fileCause ws bs ≡ r .answer
-  unfolding fileAnswer
+  cause-is : causeOf ws (file bs) ≡ r .answer
   cause-is = sym (ap (λ x. x .answer) e)
 
   pub report-refused : (r .answer ≡ 0 → ⊥) → reportInto ws bs ≡ refusal (r .answer)
   unfolding reportInto
   report-refused n = rw cause-is (done-else (r .answer) _ _ n)
 
-  pub report-done : r .answer ≡ 0 → reportInto ws bs ≡ header ++ allLines bs (fileWords ws bs)
+  pub report-done : r .answer ≡ 0 → reportInto ws bs ≡ header ++ allLines bs (wordsAfter ws (file bs))
   unfolding reportInto
   report-done z = rw (cause-is, z)
 
-  pub report-book : r .answer ≡ 0 → isBook (fileWords ws bs) ≡ true
-  report-book z = file-stays ws bs (cause-is ∙ z) .is-book
+  pub report-book : r .answer ≡ 0 → isBook (wordsAfter ws (file bs)) ≡ true
+  report-book z = done-stays ws (file bs) (cause-is ∙ z) .is-book
 
 -- a balance asked of a book, for a party and a day in their ranges, is not refused
 pub asked-cause : {ws : List ℕ} {p d : ℕ} → Asked ws p d → 0 ≡ partyDayCause ws p d

@@ -7,7 +7,8 @@ use lib.ListN.{replicate}
 use Rattle.numbers.specs.Causes.{ifDone}
 use Rattle.rules.specs.Book.{openWords, defaultCoefficient, defaultTolerance}
 use Rattle.rules.specs.Balance.{balanceAnswer, dayAhead, delivery}
-use Rattle.rules.specs.DayFile.{fileCause, fileWords, fileNames}
+use Rattle.rules.specs.DayFile.{fileNames}
+use Rattle.rules.specs.Calls.{file, causeOf, wordsAfter}
 use Rattle.text.specs.Text.{decimal, signed}
 
 -- party day ahead delivery
@@ -41,7 +42,7 @@ allLines bs ws = eachFrom (partyLines bs ws) 999 1
 
 -- the report on a file read into an opened book
 unfoldable pub reportInto : List ℕ → List ℕ → List ℕ
-reportInto ws bs = ifDone (fileCause ws bs) (header ++ allLines bs (fileWords ws bs)) (refusal (fileCause ws bs))
+reportInto ws bs = ifDone (causeOf ws (file bs)) (header ++ allLines bs (wordsAfter ws (file bs))) (refusal (causeOf ws (file bs)))
 
 -- a default book of 3,072 entries
 abbrev pub bookWords : ℕ

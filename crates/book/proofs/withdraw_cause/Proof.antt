@@ -3,7 +3,8 @@ use Prim.Native.Nat.{_<_}
 use borrow.Author.Tests.{lt-ltb, le-ltb}
 use borrow.Author.Needs.{needs}
 use Rattle.rules.specs.Words.{countOf}
-use Rattle.rules.specs.Book.{withdrawCause, entryAt}
+use Rattle.rules.specs.Book.{entryAt}
+use Rattle.rules.proofs.CallLaws.{withdraw-cause}
 use Rattle.words.specs.Parts.{kept}
 use Rattle.words.proofs.Ladder.{passed, failed}
 use Rattle.words.proofs.BookCode.{book-long, book-entry}
@@ -14,18 +15,16 @@ is-book-requires : tie.Need-is-book-requires
 is-book-requires c κs = search needs
 
 returns : tie.Need-returns
-unfolding withdrawCause
-returns c = rw (failed (c .before .is-book .ensures) (c .if1 .taken))
+returns c = rw (withdraw-cause, failed (c .before .is-book .ensures) (c .if1 .taken))
 
 count-of-requires : tie.Need-count-of-requires
 count-of-requires c κs = book-long _ (passed (c .before .is-book .ensures) (c .if1 .left))
 
 returns-2 : tie.Need-returns-2
-unfolding withdrawCause
 returns-2 c =
     let b = c .before .before in
     let a = b .before .before .before .args in
-    rw (passed (b .before .is-book .ensures) (b .if1 .left), le-ltb (a .number) (countOf (a .book .now)) (rw (c .before .count-of .ensures) at (c .if2 .taken)))
+    rw (withdraw-cause, passed (b .before .is-book .ensures) (b .if1 .left), le-ltb (a .number) (countOf (a .book .now)) (rw (c .before .count-of .ensures) at (c .if2 .taken)))
 
 place-of-requires : tie.Need-place-of-requires
 place-of-requires c κs = search needs
@@ -40,14 +39,14 @@ kept-at-requires c κs =
     (o, rw (c .place-of .ensures) (book-entry (a .book .now) o (a .number) h .within))
 
 returns-3 : tie.Need-returns-3
-unfolding withdrawCause entryAt kept
+unfolding entryAt kept
 returns-3 c =
     let d = c .before .before in
     let b = d .before .before in
     let a = b .before .before .before .args in
     let o = passed (b .before .is-book .ensures) (b .if1 .left) in
     let h : a .number < countOf (a .book .now) = rw (d .before .count-of .ensures) at (d .if2 .left) in
-    rw (o, lt-ltb (a .number) (countOf (a .book .now)) h, ← c .before .place-of .ensures) (c .kept-at .ensures)
+    rw (withdraw-cause, o, lt-ltb (a .number) (countOf (a .book .now)) h, ← c .before .place-of .ensures) (c .kept-at .ensures)
 
 pub withdraw-cause-spec : {M : Type 1} → statement M
 withdraw-cause-spec =

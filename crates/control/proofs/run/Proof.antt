@@ -10,7 +10,7 @@ use Rattle.rules.specs.Control.{afterFirst, afterSecond}
 use Rattle.rules.proofs.BookLaws.{Stays}
 use Rattle.flags.specs.Tables.{flagged, noFlags, checked}
 use Rattle.control.specs.Passes.{everyone}
-use Rattle.control.proofs.ControlLaws.{control-passes}
+use Rattle.rules.proofs.CallLaws.{control-passes}
 use Rattle.control.proofs.RunLaws.{run-book, after-first, after-second, mark-room, run-answers, run-words, run-fits}
 use borrow.Author.Needs.{needs}
 use Rattle.control.proofs.run.Statement.{statement}

@@ -3,7 +3,7 @@ use mathlib.Core.Path.{_∙_}
 use native.Mathlib.Omega.{arith}
 use Rattle.words.proofs.BookCode.{book-long}
 use Rattle.words.proofs.Ladder.{passed, failed}
-use Rattle.dayfile.proofs.FileLaws.{not-a-book, not-a-file, refused-words, done-passes, done-within, done-legal, done-count, done-words}
+use Rattle.dayfile.proofs.FileLaws.{not-a-book, not-a-file, left-as-was, done-passes, done-within, done-legal, done-count, done-stores}
 use borrow.Author.Needs.{needs}
 use Rattle.dayfile.proofs.read_file.Statement.{statement}
 use Rattle.dayfile.proofs.read_file.Tie as tie
@@ -53,7 +53,7 @@ same-length-3 c = search needs
 returns-3 : tie.Need-returns-3
 returns-3 c =
     let k = c .before .before in
-    (k .answer-of .ensures, refused-words _ _ (k .answer-of .ensures) (c .if3 .taken))
+    (k .answer-of .ensures, left-as-was _ _ (k .answer-of .ensures) (c .if3 .taken))
 
 count-of-requires : tie.Need-count-of-requires
 count-of-requires c κs =
@@ -97,7 +97,7 @@ returns-4 c =
     let n = k .before .before in
     let j = n .before .before in
     let e = j .before .before .answer-of .ensures in
-    (e, rw (n .count-of .ensures) (done-words _ _ e (j .if3 .left) (k .store-lines .ensures ∙ rw (n .count-of .ensures))))
+    (e, rw (n .count-of .ensures) (done-stores _ _ e (j .if3 .left) (k .store-lines .ensures ∙ rw (n .count-of .ensures))))
 
 pub read-file-spec : {M : Type 1} → statement M
 read-file-spec =

@@ -3,7 +3,7 @@ use mathlib.Core.Path.{refl}
 use Prim.Native.Nat.{_+_, _*_}
 use native.Mathlib.Omega.{arith}
 use borrow.Author.Needs.{needs}
-use Rattle.rules.specs.Book.{restatused}
+use Rattle.rules.specs.Stores.{restatused}
 use Rattle.words.proofs.BookCode.{kind-three}
 use Rattle.words.proofs.set_status.Statement.{statement}
 use Rattle.words.proofs.set_status.Tie as tie

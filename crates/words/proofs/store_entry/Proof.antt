@@ -4,7 +4,7 @@ use native.Mathlib.Nat.{add-zero}
 use native.Mathlib.Omega.{arith}
 use lib.ListN.{length-set}
 use borrow.Author.Needs.{needs}
-use Rattle.rules.specs.Book.{storedAt}
+use Rattle.rules.specs.Stores.{storedAt}
 use Rattle.rules.proofs.WordLaws.{legal-bounds}
 use Rattle.words.proofs.store_entry.Statement.{statement}
 use Rattle.words.proofs.store_entry.Tie as tie

@@ -2,8 +2,9 @@
 use mathlib.Core.Path.{_∙_, ap}
 use borrow.Author.Needs.{needs}
 use Rattle.rules.specs.Entry.{Key, keyOf}
+use Rattle.rules.specs.Calls.{Change, post}
 use Rattle.coding.proofs.CodingLaws.{parts}
-use Rattle.coding.proofs.CallLaws.{on-post, post-bytes}
+use Rattle.coding.proofs.CallLaws.{on-change, change-bytes}
 use Rattle.host.proofs.books.fanzsoreb_post.Statement.{statement}
 use Rattle.host.proofs.books.fanzsoreb_post.Tie as tie
 
@@ -40,10 +41,10 @@ returns c =
     let d = p .before .before .before .decode in
     let s = p .before .before .before .before .before .before .before in
     let k : Key = keyOf (s .args .party) (s .args .day) (s .args .entry-type) (s .args .counterparty) in
-    let amount = s .args .amount in (
-      p .post .ensures .0 ∙ on-post (d .ensures) k amount,
+    let call : Change = post k (s .args .amount) in (
+      p .post .ensures .0 ∙ on-change (d .ensures) call (λ cause f. record { answer = cause; number = f .number }),
       c .before .before .write-back .ensures
-          ∙ post-bytes (λ i. p .before .before .before .before .before .before .slice-known .given i .fits) (d .ensures) (d .kept .1 .0) (p .post .kept .0) k amount (p .post .ensures .1) (ap (λ r. r .answer) (p .post .ensures .0)),
+          ∙ change-bytes (λ i. p .before .before .before .before .before .before .slice-known .given i .fits) (d .ensures) (d .kept .1 .0) (p .post .kept .0) call (p .post .ensures .1) (ap (λ r. r .answer) (p .post .ensures .0)),
     )
 
 pub fanzsoreb-post-spec : {M : Type 1} → statement M

@@ -1,8 +1,9 @@
 -- `host::books::fanzsoreb_withdraw` meets its contract. Assumes nothing.
 use mathlib.Core.Path.{_∙_}
 use borrow.Author.Needs.{needs}
+use Rattle.rules.specs.Calls.{Change, withdraw}
 use Rattle.coding.proofs.CodingLaws.{parts}
-use Rattle.coding.proofs.CallLaws.{on-withdraw, withdraw-bytes}
+use Rattle.coding.proofs.CallLaws.{on-change, change-bytes}
 use Rattle.host.proofs.books.fanzsoreb_withdraw.Statement.{statement}
 use Rattle.host.proofs.books.fanzsoreb_withdraw.Tie as tie
 
@@ -38,10 +39,10 @@ returns c =
     let p = c .before .before .before .before .before .before in
     let d = p .before .before .before .decode in
     let s = p .before .before .before .before .before .before .before in
-    let number = s .args .number in (
-      p .withdraw .ensures .0 ∙ on-withdraw (d .ensures) number,
+    let call : Change = withdraw (s .args .number) in (
+      p .withdraw .ensures .0 ∙ on-change (d .ensures) call (λ cause f. cause),
       c .before .before .write-back .ensures
-          ∙ withdraw-bytes (λ i. p .before .before .before .before .before .before .slice-known .given i .fits) (d .ensures) (d .kept .1 .0) (p .withdraw .kept .0) number (p .withdraw .ensures .1) (p .withdraw .ensures .0),
+          ∙ change-bytes (λ i. p .before .before .before .before .before .before .slice-known .given i .fits) (d .ensures) (d .kept .1 .0) (p .withdraw .kept .0) call (p .withdraw .ensures .1) (p .withdraw .ensures .0),
     )
 
 pub fanzsoreb-withdraw-spec : {M : Type 1} → statement M

@@ -1,8 +1,9 @@
 -- `host::days::fanzsoreb_control` meets its contract. Assumes nothing.
 use mathlib.Core.Path.{_∙_, ap}
 use borrow.Author.Needs.{needs}
+use Rattle.rules.specs.Calls.{Change, control}
 use Rattle.coding.proofs.CodingLaws.{parts}
-use Rattle.coding.proofs.CallLaws.{on-control, control-bytes}
+use Rattle.coding.proofs.CallLaws.{on-change, change-bytes}
 use Rattle.host.proofs.days.fanzsoreb_control.Statement.{statement}
 use Rattle.host.proofs.days.fanzsoreb_control.Tie as tie
 
@@ -38,10 +39,10 @@ returns c =
     let p = c .before .before .before .before .before .before in
     let d = p .before .before .before .decode in
     let s = p .before .before .before .before .before .before .before in
-    let day = s .args .day in (
-      p .control .ensures .0 ∙ on-control (d .ensures) day,
+    let call : Change = control (s .args .day) in (
+      p .control .ensures .0 ∙ on-change (d .ensures) call (λ cause f. record { answer = cause; first = f .first; second = f .second; cancelled = f .cancelled }),
       c .before .before .write-back .ensures
-          ∙ control-bytes (λ i. p .before .before .before .before .before .before .slice-known .given i .fits) (d .ensures) (d .kept .1 .0) (p .control .kept .0) day (p .control .ensures .1) (ap (λ r. r .answer) (p .control .ensures .0)),
+          ∙ change-bytes (λ i. p .before .before .before .before .before .before .slice-known .given i .fits) (d .ensures) (d .kept .1 .0) (p .control .kept .0) call (p .control .ensures .1) (ap (λ r. r .answer) (p .control .ensures .0)),
     )
 
 pub fanzsoreb-control-spec : {M : Type 1} → statement M

@@ -1,8 +1,9 @@
 -- `host::days::fanzsoreb_read_file` meets its contract. Assumes nothing.
 use mathlib.Core.Path.{_∙_, ap}
 use borrow.Author.Needs.{needs}
+use Rattle.rules.specs.Calls.{Change, file}
 use Rattle.coding.proofs.CodingLaws.{parts}
-use Rattle.coding.proofs.CallLaws.{on-file, file-bytes}
+use Rattle.coding.proofs.CallLaws.{on-change, change-bytes}
 use Rattle.host.proofs.days.fanzsoreb_read_file.Statement.{statement}
 use Rattle.host.proofs.days.fanzsoreb_read_file.Tie as tie
 
@@ -38,10 +39,10 @@ returns c =
     let p = c .before .before .before .before .before .before in
     let d = p .before .before .before .decode in
     let s = p .before .before .before .before .before .before .before .before in
-    let file = s .args .file .now in (
-      p .read-file .ensures .0 ∙ on-file (d .ensures) file,
+    let call : Change = file (s .args .file .now) in (
+      p .read-file .ensures .0 ∙ on-change (d .ensures) call (λ cause f. record { answer = cause; posted = f .lines }),
       c .before .before .write-back .ensures
-          ∙ file-bytes (λ i. p .before .before .before .before .before .before .before .slice-known .given i .fits) (d .ensures) (d .kept .1 .0) (p .read-file .kept .0) file (p .read-file .ensures .1) (ap (λ r. r .answer) (p .read-file .ensures .0)),
+          ∙ change-bytes (λ i. p .before .before .before .before .before .before .before .slice-known .given i .fits) (d .ensures) (d .kept .1 .0) (p .read-file .kept .0) call (p .read-file .ensures .1) (ap (λ r. r .answer) (p .read-file .ensures .0)),
     )
 
 pub fanzsoreb-read-file-spec : {M : Type 1} → statement M
