@@ -94,15 +94,15 @@ pub same-fault : (k : Key) (a : ℕ) → ledgerFault k a ≡ fault k a
 unfolding ledgerFault fault counterpartyOk
 same-fault k a =
     rw (
-      outside-not 1 999 (k .party),
-      above-not 36524 (k .day),
-      type-not (k .type),
-      fault-unless (within 1 999 (k .party)) 3,
-      fault-unless (leb (k .day) 36524) 4,
-      fault-unless (isType (k .type)) 5,
+      outside-not _ _ (k .party),
+      above-not _ (k .day),
+      type-not,
+      fault-unless _ 3,
+      fault-unless _ 4,
+      fault-unless _ 5,
       nonzero-not (k .counterparty),
-      above-not 999 (k .counterparty),
-      one-check (eqb (k .type) 6) (leb (k .counterparty) 999) (eqb (k .counterparty) (k .party)) (eqb (k .counterparty) 0) _,
+      above-not _ (k .counterparty),
+      one-check,
     )
     (ap (λ later. orElse (unless (within 1 999 (k .party)) 3) (orElse (unless (leb (k .day) 36524) 4) later))
     (else-where (isType (k .type)) 4 _ _ λ e. ap (orElse (unless (counterpartyOk k) 6)) (amount-causes (k .type) a e)))

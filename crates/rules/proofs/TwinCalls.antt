@@ -20,29 +20,29 @@ in-range : (t a : ℕ) → InRange t a → (leb t 16 && ltb 1000000000 a ≡ fal
 in-range t a (inl h) = (rw (le-leb t 16 (h .1)) (le-ltb 1000000000 a (h .2)), rw (lt-leb 17 t (omega arith)))
 in-range t a (inr h) = (rw (lt-leb t 16 (omega arith)), rw (le-leb 17 t (h .0)) (le-ltb 1000000000000 a (h .2)))
 
-same-fault : (k : Key) (a b : ℕ) → InRange (k .type) a → InRange (k .type) b → ledgerFault k a ≡ ledgerFault k b
+fault-alike : (k : Key) (a b : ℕ) → InRange (k .type) a → InRange (k .type) b → ledgerFault k a ≡ ledgerFault k b
 unfolding ledgerFault
-same-fault k a b h g =
+fault-alike k a b h g =
     let x = in-range (k .type) a h in
     let y = in-range (k .type) b g in
     rw (x .0, x .1, y .0, y .1)
 
 -- a withdrawal looks at keys and statuses only
-same-standing : (rs ss : List Record) → Twins rs ss → (n : ℕ) → standsAt rs n ≡ standsAt ss n
+standing-alike : (rs ss : List Record) → Twins rs ss → (n : ℕ) → standsAt rs n ≡ standsAt ss n
 unfolding standsAt
-same-standing [] [] tw n = refl
-same-standing [] (s ∷ ss) tw n = absurd tw
-same-standing (r ∷ rs) [] tw n = absurd tw
-same-standing (r ∷ rs) (s ∷ ss) tw zero = ap (λ l. eqb (l .status) 0) (tw .0)
-same-standing (r ∷ rs) (s ∷ ss) tw (suc n) = same-standing rs ss (tw .1) n
+standing-alike [] [] tw n = refl
+standing-alike [] (s ∷ ss) tw n = absurd tw
+standing-alike (r ∷ rs) [] tw n = absurd tw
+standing-alike (r ∷ rs) (s ∷ ss) tw zero = ap (λ l. eqb (l .status) 0) (tw .0)
+standing-alike (r ∷ rs) (s ∷ ss) tw (suc n) = standing-alike rs ss (tw .1) n
 
-twins-withdrawn : (rs ss : List Record) → Twins rs ss → (n : ℕ) → Twins (withdrawnAt rs n) (withdrawnAt ss n)
+withdrawn-alike : (rs ss : List Record) → Twins rs ss → (n : ℕ) → Twins (withdrawnAt rs n) (withdrawnAt ss n)
 unfolding withdrawnAt
-twins-withdrawn [] [] tw n = tt
-twins-withdrawn [] (s ∷ ss) tw n = absurd tw
-twins-withdrawn (r ∷ rs) [] tw n = absurd tw
-twins-withdrawn (r ∷ rs) (s ∷ ss) tw zero = (ap (λ l. recordOf (l .key) 1 0 .label) (tw .0), tw .1)
-twins-withdrawn (r ∷ rs) (s ∷ ss) tw (suc n) = (tw .0, twins-withdrawn rs ss (tw .1) n)
+withdrawn-alike [] [] tw n = tt
+withdrawn-alike [] (s ∷ ss) tw n = absurd tw
+withdrawn-alike (r ∷ rs) [] tw n = absurd tw
+withdrawn-alike (r ∷ rs) (s ∷ ss) tw zero = (ap (λ l. recordOf (l .key) 1 0 .label) (tw .0), tw .1)
+withdrawn-alike (r ∷ rs) (s ∷ ss) tw (suc n) = (tw .0, withdrawn-alike rs ss (tw .1) n)
 
 module _ (lent : ℕ) (rs ss : List Record) (tw : Twins rs ss) where
   same-length : length rs ≡ length ss
@@ -61,12 +61,12 @@ module _ (lent : ℕ) (rs ss : List Record) (tw : Twins rs ss) where
   unfolding ledgerCause ledgerDone
   twin-withdrawals n =
       record {
-        causes = rw (same-standing rs ss tw n);
+        causes = rw (standing-alike rs ss tw n);
         figures = λ z. refl;
-        next = λ z. twins-withdrawn rs ss tw n;
+        next = λ z. withdrawn-alike rs ss tw n;
       }
 
   pub twin-step : (c d : Call) → AlikeCalls c d → Agree (ledger lent) (ledger lent) Twins rs ss c d
   twin-step c d (equal {c = post k a}) = twin-posts k a a refl
   twin-step c d (equal {c = withdraw n}) = twin-withdrawals n
-  twin-step c d (amounts {k = k} {a = a} {b = b} h g) = twin-posts k a b (same-fault k a b h g)
+  twin-step c d (amounts {k = k} {a = a} {b = b} h g) = twin-posts k a b (fault-alike k a b h g)
