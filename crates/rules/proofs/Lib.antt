@@ -10,3 +10,6 @@ pub mod TwinCalls
 pub mod TwoBooks
 pub mod Worked
 pub mod Figures
+pub mod NumberFigures
+pub mod CalendarFigures
+pub mod EntryFigures
