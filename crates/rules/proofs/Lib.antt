@@ -13,3 +13,4 @@ pub mod Figures
 pub mod NumberFigures
 pub mod CalendarFigures
 pub mod EntryFigures
+pub mod WordFigures
