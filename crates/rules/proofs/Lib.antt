@@ -14,3 +14,4 @@ pub mod NumberFigures
 pub mod CalendarFigures
 pub mod EntryFigures
 pub mod WordFigures
+pub mod BookFigures
