@@ -15,3 +15,6 @@ pub mod CalendarFigures
 pub mod EntryFigures
 pub mod WordFigures
 pub mod BookFigures
+pub mod BalanceFigures
+pub mod MonthFigures
+pub mod CeilingFigures
