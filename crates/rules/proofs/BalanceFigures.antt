@@ -1,5 +1,5 @@
 -- Worked figures of 01, 'The two balances': 100 × S - the larger of 100 × TM and C × R, with R and TM other than 110 and 600,000.
--- Each type alone, all types together with amounts 2, 4, 8 .. (so that each set of types has its ofOne sum), who and what counts, and where zero lies.
+-- Each type alone, all types together with amounts 2, 4, 8 .. (so that each set of types has its own sum), who and what counts, and where zero lies.
 use mathlib.Core.Bool.{Bool, true, false, not, _&&_, Bool·beq}
 use mathlib.Core.List.{List, [], _∷_, _++_, map}
 use mathlib.Core.Path.{_≡_, refl}
