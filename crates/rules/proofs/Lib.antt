@@ -18,3 +18,11 @@ pub mod TwinCalls
 pub mod TwoBooks
 pub mod Worked
 pub mod Figures
+pub mod NumberFigures
+pub mod CalendarFigures
+pub mod EntryFigures
+pub mod WordFigures
+pub mod BookFigures
+pub mod BalanceFigures
+pub mod MonthFigures
+pub mod CeilingFigures
