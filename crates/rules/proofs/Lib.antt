@@ -10,3 +10,4 @@ pub mod TwinCalls
 pub mod TwoBooks
 pub mod Worked
 pub mod Figures
+pub mod CollateralFigures
