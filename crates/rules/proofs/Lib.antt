@@ -11,3 +11,4 @@ pub mod TwoBooks
 pub mod Worked
 pub mod Figures
 pub mod CollateralFigures
+pub mod ControlFigures

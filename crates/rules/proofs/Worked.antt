@@ -172,3 +172,4 @@ oneDay = controlWords (book (chain 9000)) 9000
 unfoldable pub computed : Unit {0}
 unfolding sum total count countBelow all any halfUp roundUp sumℤ dateOf monthOf monthFrom monthStart monthLength daysIn isLeap counterpartyOk amountLimit fault markOk statusOk legal encode decode entryOk entriesOk readEntries isBook entries encodeAll usedWords laid openCause openWords isClosed shutTo postCause storedAt posted postAnswer postWords entryAt withdrawCause restatused withdrawWords counted countedTo sumOf boughtBy tallyOf acquired saleSide coverSide balanceOf balance isDetected partyDayCause balanceAnswer tallyAnswer monthCause weightedPrices weights aosmf aedm monthFigures monthAnswer generationMargin margin tradingDays debtOf debts debt quarters trading highestPrice lowestVolume imbalanceOver imbalance risk yek totalOf monthOk figuresOk collateralCause collateralOf collateralAnswer isRecordable ceilingCause ceilingAnswer detectedIn isToCancel cancelOf isRepeatedBuyer firstPass afterFirst secondPass afterSecond markOf controlledRecords controlCause detectedParties cancelledEntries controlAnswer controlWords wordsOf isShaped isFile itemsFrom items itemCause linesOf fileCause fileAnswer fileWords itemNames fileNames after answers callAnswer callWords bookAfter bookAnswers
 computed = tt
+
