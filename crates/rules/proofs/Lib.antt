@@ -12,3 +12,4 @@ pub mod Worked
 pub mod Figures
 pub mod CollateralFigures
 pub mod ControlFigures
+pub mod FileFigures
