@@ -13,8 +13,7 @@ use Rattle.rules.specs.Words.{usedWords}
 use Rattle.rules.specs.Balance.{Volume, dayAhead, delivery, sumOf, boughtBy, acquired, isDetected, balanceAnswer, tallyAnswer}
 use Rattle.rules.specs.declared.Tally.{Tally}
 use Rattle.rules.specs.declared.TallyAnswer.{TallyAnswer}
-use Rattle.rules.proofs.Worked.{minus, isSigned, computed}
-use Rattle.rules.proofs.NumberFigures.{sameNumbers}
+use Rattle.rules.proofs.Worked.{minus, isSigned, sameNumbers, computed}
 
 abbrev sameSigned : List ℤ → List ℤ → Bool
 sameSigned [] [] = true

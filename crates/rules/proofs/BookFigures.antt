@@ -10,12 +10,13 @@ use lib.ListN.{replicate, set, take}
 use Rattle.numbers.specs.Tests.{every}
 use Rattle.rules.specs.Entry.{Key, Record, keyOf, recordOf}
 use Rattle.rules.specs.Words.{usedWords}
-use Rattle.rules.specs.Book.{defaultCoefficient, defaultTolerance, openCause, openWords, isClosed, shutTo, postCause, postAnswer, postWords, entryAt, withdrawCause, restatused, withdrawWords, countCause, countAnswer, readCause, readAnswer}
-use Rattle.rules.specs.Ledger.{Call, post, withdraw, bookAfter, bookAnswers, ledgerCause, ledgerDone, ledgerAnswer, ledgerLeaves, ledgerAfter, ledgerAnswers}
-use Rattle.rules.specs.declared.Posted.{Posted}
+use Rattle.rules.specs.Book.{defaultCoefficient, defaultTolerance, openCause, openWords, isClosed, shutTo, entryAt, countCause, countAnswer, readCause, readAnswer}
+use Rattle.rules.specs.Stores.{restatused}
+use Rattle.rules.specs.Machine.{Answer}
+use Rattle.rules.specs.Calls.{Figures, postAnswer}
+use Rattle.rules.specs.Ledger.{Call, post, withdraw, bookAfter, bookAnswers, ledgerFault, standsAt, withdrawnAt, ledgerCause, ledgerDone, ledgerAfter, ledgerAnswers}
 use Rattle.rules.specs.declared.EntryRead.{EntryRead}
-use Rattle.rules.proofs.Worked.{computed}
-use Rattle.rules.proofs.NumberFigures.{sameNumbers}
+use Rattle.rules.proofs.Worked.{postCause, postWords, withdrawCause, withdrawWords, sameNumbers, computed}
 use Rattle.rules.proofs.WordFigures.{fields, allFields}
 
 -- what a call answers, and the words it leaves
@@ -43,9 +44,9 @@ abbrev readFields : EntryRead → List ℕ
 readFields r =
     r .answer ∷ r .party ∷ r .day ∷ r .«entry_type» ∷ r .counterparty ∷ r .status ∷ r .amount ∷ []
 
-abbrev allAnswers : List Posted → List ℕ
+abbrev allAnswers : List (Answer Figures) → List ℕ
 allAnswers [] = []
-allAnswers (p ∷ ps) = p .answer ∷ p .number ∷ allAnswers ps
+allAnswers (p ∷ ps) = p .cause ∷ p .figures .number ∷ allAnswers ps
 
 -- thirteen words, each 7, opened with R 150 and TM 9: room for two
 abbrev opened : ℕ → List ℕ
@@ -212,5 +213,5 @@ bookFigures =
     ∷ []
 
 pub bookFigures-hold : every bookFigures ≡ true
-unfolding computed bookFigures countCause countAnswer readCause readAnswer ledgerCause ledgerDone ledgerAnswer ledgerLeaves ledgerAfter ledgerAnswers
+unfolding computed bookFigures countCause countAnswer readCause readAnswer restatused ledgerFault standsAt withdrawnAt ledgerCause ledgerDone ledgerAfter ledgerAnswers
 bookFigures-hold = refl

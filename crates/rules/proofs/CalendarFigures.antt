@@ -7,8 +7,7 @@ use Prim.Native.Nat.{ℕ}
 use lib.Dec.{eqb}
 use Rattle.numbers.specs.Tests.{every}
 use Rattle.calendar.specs.Calendar.{months, days, isLeap, daysIn, yearOf, monthInYear, monthLength, monthStart, monthOf, dateOf}
-use Rattle.rules.proofs.Worked.{isDate, computed}
-use Rattle.rules.proofs.NumberFigures.{sameNumbers}
+use Rattle.rules.proofs.Worked.{isDate, sameNumbers, computed}
 
 -- the months of a year
 abbrev ofYear : List ℕ

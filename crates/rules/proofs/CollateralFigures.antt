@@ -15,21 +15,14 @@ use Rattle.rules.specs.Ledger.{Call, post, withdraw}
 use Rattle.rules.specs.declared.Month.{Month}
 use Rattle.rules.specs.declared.Case.{Case}
 use Rattle.rules.specs.declared.Collateral.{Collateral}
-use Rattle.rules.proofs.Worked.{minus, book, on, tradingIs, computed}
-
--- two lists of numbers are equal
-unfoldable pub same : List ℕ → List ℕ → Bool
-same [] [] = true
-same [] (y ∷ ys) = false
-same (x ∷ xs) [] = false
-same (x ∷ xs) (y ∷ ys) = eqb x y && same xs ys
+use Rattle.rules.proofs.Worked.{minus, book, on, tradingIs, sameNumbers, computed}
 
 -- the whole answer: answer, margin, trading, imbalance, risk, YEK, total
 abbrev figures : Collateral → List ℕ
 figures a = a .answer ∷ a .margin ∷ a .trading ∷ a .imbalance ∷ a .risk ∷ a .yek ∷ a .total ∷ []
 
 abbrev answerIs : List ℕ → Case → List ℕ → Bool
-answerIs ws c xs = same (figures (collateralAnswer ws c)) xs
+answerIs ws c xs = sameNumbers (figures (collateralAnswer ws c)) xs
 
 abbrev month : ℕ → ℤ → Month
 month price volume = record { aosmf = price; aedm = volume }
@@ -157,7 +150,7 @@ caseRanges =
     ∷ []
 
 pub caseRanges-hold : every caseRanges ≡ true
-unfolding computed same caseRanges
+unfolding computed caseRanges
 caseRanges-hold = refl
 
 -- Margin: 20 per kW from 50,000 kW on, 1,000,000 below, 20,000,000 above 1,000,000 kW and for the other licences
@@ -414,7 +407,7 @@ totals =
     ∷ []
 
 pub totals-hold : every totals ≡ true
-unfolding computed same totals
+unfolding computed totals
 totals-hold = refl
 
 -- A case takes one figure at a time: a case whose figures are all different, as the list of them, and each change of one figure
@@ -462,11 +455,11 @@ numbers =
 
 -- figure i is 7 now, the others are as before
 abbrev changes : Case → ℕ → Bool
-changes c i = same (caseOf c) (set numbers i 7)
+changes c i = sameNumbers (caseOf c) (set numbers i 7)
 
 pub caseFigures : List Bool
 caseFigures =
-    same (caseOf numbered) numbers
+    sameNumbers (caseOf numbered) numbers
     ∷ changes (withParty numbered 7) 0
     ∷ changes (withDay numbered 7) 1
     ∷ changes (withLicence numbered 7) 2
@@ -483,9 +476,9 @@ caseFigures =
     ∷ changes (withRt numbered 7) 19
     ∷ changes (withMonths numbered (month 7 (pos 112) ∷ month 113 (pos 114) ∷ month 115 (pos 116) ∷ [])) 11
     -- a plain supplier's: all figures 0, three month answers among them, M 1, own group
-    ∷ same (caseOf plainCase) (0 ∷ 0 ∷ 0 ∷ 0 ∷ 0 ∷ 0 ∷ 0 ∷ 0 ∷ 0 ∷ 1 ∷ 1 ∷ 0 ∷ 0 ∷ 0 ∷ 0 ∷ 0 ∷ 0 ∷ 0 ∷ 0 ∷ 0 ∷ [])
+    ∷ sameNumbers (caseOf plainCase) (0 ∷ 0 ∷ 0 ∷ 0 ∷ 0 ∷ 0 ∷ 0 ∷ 0 ∷ 0 ∷ 1 ∷ 1 ∷ 0 ∷ 0 ∷ 0 ∷ 0 ∷ 0 ∷ 0 ∷ 0 ∷ 0 ∷ 0 ∷ [])
     ∷ []
 
 pub caseFigures-hold : every caseFigures ≡ true
-unfolding computed same caseFigures
+unfolding computed caseFigures
 caseFigures-hold = refl

@@ -10,11 +10,9 @@ use lib.Dec.{eqb}
 use lib.ListN.{length, replicate, set}
 use Rattle.numbers.specs.Tests.{every}
 use Rattle.rules.specs.Entry.{keyOf}
-use Rattle.rules.specs.Book.{postCause, withdrawCause}
-use Rattle.rules.specs.Control.{controlAnswer, controlWords}
+use Rattle.rules.specs.Calls.{controlAnswer}
 use Rattle.rules.specs.declared.Controlled.{Controlled}
-use Rattle.rules.proofs.Worked.{computed}
-use Rattle.rules.proofs.CollateralFigures.{same}
+use Rattle.rules.proofs.Worked.{postCause, withdrawCause, controlWords, sameNumbers, computed}
 
 -- the five words of an entry whose amount is below 2^28: party, day, type, counterparty, status, amount
 abbrev pub entry : ℕ → ℕ → ℕ → ℕ → ℕ → ℕ → List ℕ
@@ -51,13 +49,13 @@ mark d = entry 0 d 21 0 0 0
 abbrev countsAre : List ℕ → ℕ → List ℕ → Bool
 countsAre ws d xs =
     let r : Controlled = controlAnswer ws d in
-    same (r .answer ∷ r .first ∷ r .second ∷ r .cancelled ∷ []) xs
+    sameNumbers (r .answer ∷ r .first ∷ r .second ∷ r .cancelled ∷ []) xs
 
 -- a control of day 5 leaves these entries and the mark, in just the room that the mark needs, and cancels so many
 abbrev leaves : List (List ℕ) → List (List ℕ) → ℕ → Bool
 leaves es after n =
     every
-    (same (controlWords (page es 5) 5) (page (after ++ (mark 5 ∷ [])) 0)
+    (sameNumbers (controlWords (page es 5) 5) (page (after ++ (mark 5 ∷ [])) 0)
     ∷ eqb (controlAnswer (page es 5) 5 .answer) 0
     ∷ eqb (controlAnswer (page es 5) 5 .cancelled) n
     ∷ [])
@@ -101,7 +99,7 @@ firstPasses =
     ∷ []
 
 pub firstPasses-hold : every firstPasses ≡ true
-unfolding computed same joined firstPasses
+unfolding computed joined firstPasses
 firstPasses-hold = refl
 
 -- Second pass: 1's sale of 101 to 2 is cancelled in the first; 2's sale of 202 to 3 was covered by it alone and goes
@@ -167,13 +165,13 @@ secondPasses =
     (void 1 5 2 101 ∷ void 1 6 2 7 ∷ void 2 5 3 202 ∷ void 2 6 3 7 ∷ sale 3 5 4 404 ∷ [])
     2
     -- on the last day of the table's first month, with a pair of that month
-    ∷ same
+    ∷ sameNumbers
     (controlWords (page (sale 1 30 999 101 ∷ sale 999 30 3 202 ∷ void 1 0 999 7 ∷ []) 5) 30)
     (page (void 1 30 999 101 ∷ void 999 30 3 202 ∷ void 1 0 999 7 ∷ mark 30 ∷ []) 0)
     ∷ []
 
 pub secondPasses-hold : every secondPasses ≡ true
-unfolding computed same joined secondPasses
+unfolding computed joined secondPasses
 secondPasses-hold = refl
 
 -- the answer counts every detected party, with a bilateral sale or without, and entries cancelled in both passes
@@ -184,12 +182,12 @@ controlCounts =
     ∷ []
 
 pub controlCounts-hold : every controlCounts ≡ true
-unfolding computed same joined controlCounts
+unfolding computed joined controlCounts
 controlCounts-hold = refl
 
 -- the causes of a control, 1, 4, 8 and 9, in that order; on a refusal the counts are 0 and the words are as before
 abbrev refusedBy : ℕ → List ℕ → ℕ → Bool
-refusedBy cause ws d = countsAre ws d (cause ∷ 0 ∷ 0 ∷ 0 ∷ []) && same (controlWords ws d) ws
+refusedBy cause ws d = countsAre ws d (cause ∷ 0 ∷ 0 ∷ 0 ∷ []) && sameNumbers (controlWords ws d) ws
 
 abbrev oneSale : List (List ℕ)
 oneSale = sale 1 5 2 101 ∷ []
@@ -209,7 +207,7 @@ controlCauses =
     ∷ refusedBy 4 (page oneSale 5) 36525
     ∷ refusedBy 4 (page oneSale 0) 36525
     -- the last day of the table
-    ∷ same (controlWords (page oneSale 5) 36524) (page (sale 1 5 2 101 ∷ mark 36524 ∷ []) 0)
+    ∷ sameNumbers (controlWords (page oneSale 5) 36524) (page (sale 1 5 2 101 ∷ mark 36524 ∷ []) 0)
     -- a day with a mark, with room and without; a mark of another day closes that day alone
     ∷ refusedBy 8 (page (sale 1 5 2 101 ∷ mark 5 ∷ []) 5) 5
     ∷ refusedBy 8 (page (sale 1 5 2 101 ∷ mark 5 ∷ []) 0) 5
@@ -218,17 +216,17 @@ controlCauses =
     ∷ refusedBy 9 (page oneSale 0) 5
     ∷ refusedBy 9 (page oneSale 4) 5
     ∷ refusedBy 9 (page [] 4) 5
-    ∷ same (controlWords (page oneSale 5) 5) (page (void 1 5 2 101 ∷ mark 5 ∷ []) 0)
-    ∷ same (controlWords (page oneSale 7) 5) (page (void 1 5 2 101 ∷ mark 5 ∷ []) 2)
+    ∷ sameNumbers (controlWords (page oneSale 5) 5) (page (void 1 5 2 101 ∷ mark 5 ∷ []) 0)
+    ∷ sameNumbers (controlWords (page oneSale 7) 5) (page (void 1 5 2 101 ∷ mark 5 ∷ []) 2)
     -- the words of a controlled book, one by one
-    ∷ same
+    ∷ sameNumbers
     (controlWords (page oneSale 5) 5)
     (0x60000002 ∷ 0x700000C8 ∷ 0x80000064 ∷ 0x10000001 ∷ 0x20000005 ∷ 0x32000206 ∷ 0x40000065 ∷ 0x50000000 ∷ 0x10000000 ∷ 0x20000005 ∷ 0x30000015 ∷ 0x40000000 ∷ 0x50000000 ∷ [])
     -- one sale cancelled in one month on two days, in either order: each control closes its day, the later one repeats the pair
-    ∷ same
+    ∷ sameNumbers
     (controlWords (controlWords (page twoDays 10) 6) 5)
     (page (void 1 6 2 101 ∷ sale 2 6 3 202 ∷ void 1 5 2 101 ∷ void 2 5 3 202 ∷ mark 6 ∷ mark 5 ∷ []) 0)
-    ∷ same
+    ∷ sameNumbers
     (controlWords (controlWords (page twoDays 10) 5) 6)
     (page (void 1 6 2 101 ∷ void 2 6 3 202 ∷ void 1 5 2 101 ∷ sale 2 5 3 202 ∷ mark 5 ∷ mark 6 ∷ []) 0)
     ∷ refusedBy 8 (controlWords (controlWords (page twoDays 15) 6) 5) 6
@@ -245,5 +243,5 @@ controlCauses =
     ∷ []
 
 pub controlCauses-hold : every controlCauses ≡ true
-unfolding computed same joined controlCauses
+unfolding computed joined controlCauses
 controlCauses-hold = refl

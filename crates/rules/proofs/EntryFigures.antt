@@ -9,8 +9,7 @@ use lib.ListN.{replicate}
 use Rattle.numbers.specs.Tests.{every}
 use Rattle.rules.specs.Refusals.{notABook, badFile, badParty, badDay, badType, badCounterparty, badAmount, dayClosed, noRoom, noEntry, badLength, badFigure}
 use Rattle.rules.specs.Entry.{Record, keyOf, recordOf, isVolume, isMoney, isType, isExport, isBilateral, isStanding, isCancelled, isMark, fault, markOk, statusOk, legal}
-use Rattle.rules.proofs.Worked.{computed}
-use Rattle.rules.proofs.NumberFigures.{sameNumbers}
+use Rattle.rules.proofs.Worked.{sameNumbers, computed}
 
 -- types 1 to 16 are volumes, 17 to 20 money; all but 6 have no counterparty
 abbrev volumes : List ℕ

@@ -8,10 +8,10 @@ use Prim.Native.Nat.{ℕ, zero, suc, _+_, _*_}
 use lib.Dec.{eqb}
 use lib.ListN.{length, take, set}
 use Rattle.numbers.specs.Tests.{every}
-use Rattle.rules.specs.DayFile.{wordsOf, isShaped, isFile, fileAnswer, fileWords, fileNames}
+use Rattle.rules.specs.DayFile.{wordsOf, isShaped, isFile, fileNames}
+use Rattle.rules.specs.Calls.{fileAnswer}
 use Rattle.rules.specs.declared.FileRead.{FileRead}
-use Rattle.rules.proofs.Worked.{bytes, computed}
-use Rattle.rules.proofs.CollateralFigures.{same}
+use Rattle.rules.proofs.Worked.{fileWords, bytes, sameNumbers, computed}
 use Rattle.rules.proofs.ControlFigures.{entry, joined, page, mark}
 
 -- a block's two words: party, number of lines, day; a line's three: type, counterparty, an amount below 2^28
@@ -31,11 +31,11 @@ answerIs ws bs cause n =
     eqb (r .answer) cause && eqb (r .posted) n
 
 abbrev posts : List (List ℕ) → ℕ → List ℕ → List ℕ → ℕ → Bool
-posts es spare bs left n = answerIs (page es spare) bs 0 n && same (fileWords (page es spare) bs) left
+posts es spare bs left n = answerIs (page es spare) bs 0 n && sameNumbers (fileWords (page es spare) bs) left
 
 -- on a refusal nothing is posted and the words are as before
 abbrev refusedIn : List ℕ → ℕ → List ℕ → Bool
-refusedIn ws cause bs = answerIs ws bs cause 0 && same (fileWords ws bs) ws
+refusedIn ws cause bs = answerIs ws bs cause 0 && sameNumbers (fileWords ws bs) ws
 
 abbrev refused : ℕ → List (List ℕ) → Bool
 refused cause ps = refusedIn (page [] 50) cause (file ps)
@@ -51,11 +51,11 @@ oneLine w x y = head 1 1 5 ∷ (w ∷ x ∷ y ∷ []) ∷ []
 pub fileShapes : List Bool
 fileShapes =
     -- little-endian; bytes that make no whole word
-    same (wordsOf (1 ∷ 2 ∷ 3 ∷ 4 ∷ 5 ∷ 6 ∷ 7 ∷ 8 ∷ [])) (0x04030201 ∷ 0x08070605 ∷ [])
-    ∷ same (wordsOf (1 ∷ 2 ∷ 3 ∷ 4 ∷ 5 ∷ 6 ∷ 7 ∷ [])) (0x04030201 ∷ [])
-    ∷ same (wordsOf (1 ∷ 2 ∷ 3 ∷ 4 ∷ 5 ∷ 6 ∷ [])) (0x04030201 ∷ [])
-    ∷ same (wordsOf (1 ∷ 2 ∷ 3 ∷ 4 ∷ 5 ∷ [])) (0x04030201 ∷ [])
-    ∷ same (wordsOf (255 ∷ 255 ∷ 255 ∷ 255 ∷ [])) (0xFFFFFFFF ∷ [])
+    sameNumbers (wordsOf (1 ∷ 2 ∷ 3 ∷ 4 ∷ 5 ∷ 6 ∷ 7 ∷ 8 ∷ [])) (0x04030201 ∷ 0x08070605 ∷ [])
+    ∷ sameNumbers (wordsOf (1 ∷ 2 ∷ 3 ∷ 4 ∷ 5 ∷ 6 ∷ 7 ∷ [])) (0x04030201 ∷ [])
+    ∷ sameNumbers (wordsOf (1 ∷ 2 ∷ 3 ∷ 4 ∷ 5 ∷ 6 ∷ [])) (0x04030201 ∷ [])
+    ∷ sameNumbers (wordsOf (1 ∷ 2 ∷ 3 ∷ 4 ∷ 5 ∷ [])) (0x04030201 ∷ [])
+    ∷ sameNumbers (wordsOf (255 ∷ 255 ∷ 255 ∷ 255 ∷ [])) (0xFFFFFFFF ∷ [])
     -- an empty file is legal; a length that is no multiple of 4
     ∷ refusedIn (page [] 50) 0 []
     ∷ refusedIn (page [] 50) 2 (0 ∷ [])
@@ -144,7 +144,7 @@ fileShapes =
     ∷ []
 
 pub fileShapes-hold : every fileShapes ≡ true
-unfolding computed same joined fileShapes
+unfolding computed joined fileShapes
 fileShapes-hold = refl
 
 -- At most 65,536 bytes: a file of just that length is one if its words are blocks, a longer one is none.
@@ -256,7 +256,7 @@ fileCauses =
     ∷ []
 
 pub fileCauses-hold : every fileCauses ≡ true
-unfolding computed same joined fileCauses
+unfolding computed joined fileCauses
 fileCauses-hold = refl
 
 -- All lines are posted or none: standing entries after those of the book, in file order; the answer counts lines
@@ -287,7 +287,7 @@ filePosts =
     ∷ []
 
 pub filePosts-hold : every filePosts ≡ true
-unfolding computed same joined filePosts
+unfolding computed joined filePosts
 filePosts-hold = refl
 
 -- A file names each block's party and day, with lines or without, and counterparties above 0 on that day

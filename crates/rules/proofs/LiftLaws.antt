@@ -35,7 +35,6 @@ pub record SameView (ws vs : List ℕ) : Type 0 where
   pub frame : isBook vs ≡ true → frameOf ws ≡ frameOf vs
   pub holds : isBook vs ≡ true → entries ws ≡ entries vs
 
-
 -- words cut past those of a full book have the same view
 guarded : (p g x y : Bool) → (g ≡ true → x ≡ y) → p && g && x ≡ p && g && y
 guarded true true x y h = h refl

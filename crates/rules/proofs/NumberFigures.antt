@@ -11,14 +11,7 @@ use Rattle.numbers.specs.Tests.{every, all, any, allBelow}
 use Rattle.numbers.specs.Causes.{unless, orElse, firstOf, ifDone}
 use Rattle.numbers.specs.Rounding.{halfUp, roundUp}
 use Rattle.numbers.specs.Signed.{isPositive, isNegative, lower, sumℤ}
-use Rattle.rules.proofs.Worked.{minus, isSigned, computed}
-
--- two lists of numbers are equal, place by place and in length
-abbrev pub sameNumbers : List ℕ → List ℕ → Bool
-sameNumbers [] [] = true
-sameNumbers [] (y ∷ ys) = false
-sameNumbers (x ∷ xs) [] = false
-sameNumbers (x ∷ xs) (y ∷ ys) = eqb x y && sameNumbers xs ys
+use Rattle.rules.proofs.Worked.{minus, isSigned, sameNumbers, computed}
 
 -- `every` tells a list with one failed test, first, between or last; the lists of figures rest on it, so it is shown without it
 pub tests-told :

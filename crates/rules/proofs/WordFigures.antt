@@ -10,8 +10,7 @@ use lib.ListN.{replicate, set, take}
 use Rattle.numbers.specs.Tests.{every}
 use Rattle.rules.specs.Entry.{Record, keyOf, recordOf, key}
 use Rattle.rules.specs.Words.{kindOf, valueOf, encode, decode, countOf, coefficientOf, toleranceOf, roomIn, isBook, entries, usedWords, laid}
-use Rattle.rules.proofs.Worked.{computed}
-use Rattle.rules.proofs.NumberFigures.{sameNumbers}
+use Rattle.rules.proofs.Worked.{sameNumbers, computed}
 
 -- the figures of an entry: party, day, type, counterparty, status, amount
 abbrev pub fields : Record → List ℕ

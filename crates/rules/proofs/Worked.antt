@@ -40,6 +40,13 @@ isSigned a b = leZ a b && leZ b a
 abbrev pub isDate : Date → ℕ → ℕ → ℕ → Bool
 isDate t y m d = every (eqb (t .year) y ∷ eqb (t .month) m ∷ eqb (t .day) d ∷ [])
 
+-- two lists of numbers are equal, place by place and in length
+abbrev pub sameNumbers : List ℕ → List ℕ → Bool
+sameNumbers [] [] = true
+sameNumbers [] (y ∷ ys) = false
+sameNumbers (x ∷ xs) [] = false
+sameNumbers (x ∷ xs) (y ∷ ys) = eqb x y && sameNumbers xs ys
+
 -- a book for ten entries with R 110 and TM 600,000, after these calls
 abbrev pub book : List Call → List ℕ
 book cs = bookAfter (openWords (replicate 53 0) 110 600000) cs

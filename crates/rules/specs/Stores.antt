@@ -30,4 +30,3 @@ raised status w = w + status * 16777216
 -- entry n, standing until now, with another status
 unfoldable pub restatused : ℕ → List ℕ → ℕ → List ℕ
 restatused status ws n = set ws (placeOf n + 2) (raised status (getD ws (placeOf n + 2) 0))
-
