@@ -18,3 +18,6 @@ pub mod BookFigures
 pub mod BalanceFigures
 pub mod MonthFigures
 pub mod CeilingFigures
+pub mod CollateralFigures
+pub mod ControlFigures
+pub mod FileFigures
