@@ -1,6 +1,6 @@
-/* Sizes, offsets, constants and types of fanzsoreb.h, each held when this is compiled: in C99 by an array of -1 elements
- * where one does not hold, in C++ by static_assert. The figures are those of the x86-64 calling convention, counted by
- * hand: a field stands at the next multiple of its own size. */
+/* Sizes, offsets and constants of fanzsoreb.h, each held when this is compiled: in C99 by an array of -1 elements where
+ * one does not hold, in C++ by static_assert. Counted by hand for x86-64: a number stands at the next multiple of its
+ * own size. */
 #ifndef LAYOUT_H
 #define LAYOUT_H
 

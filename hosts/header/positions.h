@@ -160,6 +160,8 @@ static void months(size_t offset)
     CHECK(m.answer == FANZSOREB_DONE && m.month.aosmf == 2800 && m.month.aedm == 11);
     m = month(2, 4, 2, 1); /* 30 - 5 - 40 + 6 */
     CHECK(m.answer == FANZSOREB_DONE && m.month.aosmf == 2800 && m.month.aedm == -9);
+    m = fanzsoreb_month(prices, 8, prices, 8, 1, prices, 8, 0); /* one slice thrice: (1,000^2 + 4,000^2) / 5,000 */
+    CHECK(m.answer == FANZSOREB_DONE && m.month.aosmf == 3400 && m.month.aedm == 0);
     m = month(0, 0, 64, 63);
     CHECK(m.answer == FANZSOREB_DONE && m.month.aosmf == 0 && m.month.aedm == 0);
     store(prices, 0, 100);
