@@ -1,21 +1,41 @@
 /*
- * Fanzsoreb: the market balance engine. C99, usable from C++.
+ * Fanzsoreb: the market balance engine. C99, usable from C++; the library is for x86-64 Linux.
  *
- * A book is memory that the host lends: 32-bit words as bytes, little-endian. A book of n entries uses
- * 12 + 20 * n bytes; a full one, 3,072 entries, 61,452 bytes (FANZSOREB_BOOK_BYTES). Nothing is kept between
- * calls, nothing is allocated, and no call reads or writes outside the bytes lent. A length that is no multiple
- * of 4 answers 1. An empty slice may come with a null pointer.
+ * Answers. A call may be made with any figures and on any lent bytes. Either it is done: it answers 0, gives the
+ * stated figures and changes just the stated bytes. Or it is refused: it answers the lowest number of the list below
+ * that holds (a day file has an order of its own), its other figures are 0, and no lent byte has changed.
+ * fanzsoreb_version, fanzsoreb_is_book and fanzsoreb_detected give a number and are never refused. The figures of an
+ * answer have stated values, the padding between them has none: compare figures, not memory.
  *
- * Every call may be made with any input. It either answers 0, gives the stated figures and changes just the
- * stated bytes; or it answers the lowest number of the list below that holds, its other figures are 0, and no
- * lent byte has changed.
+ * Units. Volumes are in kWh, money in kurus, prices in kurus per MWh, balances in hundredths of a kWh, signed. A day
+ * is a number: 0 is 2000-01-01, 36,524 is 2099-12-31. Parties are 1 to 999.
  *
- * Units: volumes in kWh, money in kurus, prices in kurus per MWh, balances in hundredths of a kWh, signed.
- * A day is a number: 0 is 2000-01-01, 36,524 is 2099-12-31. Parties are 1 to 999.
+ * A book is memory that the host lends: 32-bit words as bytes, little-endian. A word's top four bits are its kind.
+ *   byte 0           kind 6, number of entries
+ *   byte 4           kind 7, coefficient R in hundredths, 0 to 1,000
+ *   byte 8           kind 8, tolerance amount TM in kWh, 0 to 200,000,000
+ *   byte 12 + 20 n   entry n, five words: kind 1, party; kind 2, day; kind 3, type in bits 0-7, counterparty in bits
+ *                    8-23, status in bits 24-25; kind 4, the amount's low 28 bits; kind 5, its next 12 bits
+ * It has room for (length - 12) / 20 entries, rounded down, and for 3,072 at most, which is 61,452 bytes. The bytes
+ * after its last entry may have any values, no answer depends on them; those after the first 61,452 are not read or
+ * written. A length that is no multiple of 4 is no book: fanzsoreb_is_book gives 0, every other call on a book
+ * answers 1. (Of a day file it answers 2, of a month's tables 11.)
  *
- * Stack: a call on a book needs 64 KiB, for the book's words; reading a day file 100 KiB, for a flag a day too;
- * control 340 KiB, for 17 sums a party and a bit a pair; the month step 200 KiB, for its tables. All others need
- * less than 1 KiB. Calls on different books may run at the same time.
+ * Memory. A pointer leads to as many bytes as its length says, which the call may read and, where it is not const,
+ * write. Any address will do: nothing is aligned. A null pointer is for length 0 only. The bytes have been given
+ * values before, whichever they are: fill fresh memory once (calloc, memset) before you open a book in it. A book
+ * lent to be written overlaps nothing else that the same call is lent, such as the day file read into it; slices that
+ * are only read may overlap or be the same. No other memory of the host is read or written; nothing is kept between
+ * calls and nothing is allocated.
+ *
+ * Threads. Calls that take a const book may run on one book at the same time. A call that takes a book that is not
+ * const needs it alone until it returns, whatever its answer: where it is done it may store any of the book's first
+ * 61,452 bytes, though all but the stated ones get the values they had. Calls on different books may run at the same
+ * time.
+ *
+ * Stack. A call on a book needs 64 KiB, for the book's words; reading a day file 100 KiB, for a flag a day too;
+ * control 340 KiB, for 17 sums a party and a bit a pair; the month step 200 KiB, for its tables. All others need less
+ * than 1 KiB.
  */
 #ifndef FANZSOREB_H
 #define FANZSOREB_H
@@ -27,37 +47,41 @@
 extern "C" {
 #endif
 
-#define FANZSOREB_VERSION 10000 /* 1.0.0 */
+#define FANZSOREB_VERSION 10000 /* 1.0.0: major x 10,000 + minor x 100 + patch */
 
-#define FANZSOREB_MOST_ENTRIES 3072
-#define FANZSOREB_BOOK_BYTES 61452
-#define FANZSOREB_MOST_FILE_BYTES 65536
+#define FANZSOREB_MOST_ENTRIES 3072      /* of a book */
+#define FANZSOREB_BOOK_BYTES 61452       /* of a book with room for as many, 12 + 20 x 3,072 */
+#define FANZSOREB_MOST_FILE_BYTES 65536  /* of a day file */
 
 /* Why a call comes back. */
 enum fanzsoreb_cause {
     FANZSOREB_DONE = 0,
     FANZSOREB_NOT_A_BOOK = 1,
-    FANZSOREB_BAD_FILE = 2,         /* file length, kinds, spare or status bits, or ending wrong */
+    FANZSOREB_BAD_FILE = 2,         /* file above 65,536 bytes or no multiple of 4; kinds, spare or status bits, or
+                                       ending wrong */
     FANZSOREB_BAD_PARTY = 3,        /* party outside 1 to 999 */
     FANZSOREB_BAD_DAY = 4,          /* day above 36,524 */
     FANZSOREB_BAD_TYPE = 5,         /* type outside 1 to 20 */
-    FANZSOREB_BAD_COUNTERPARTY = 6,
-    FANZSOREB_BAD_AMOUNT = 7,       /* above 10^9 for types 1 to 16, above 10^12 for 17 to 20 */
-    FANZSOREB_DAY_CLOSED = 8,       /* a second control; posting or withdrawing a bilateral sale of a closed day */
+    FANZSOREB_BAD_COUNTERPARTY = 6, /* not 0 outside type 6; in type 6 above 999 or the party itself. There 0 is the
+                                       System Operator, an export */
+    FANZSOREB_BAD_AMOUNT = 7,       /* above 10^9 kWh for types 1 to 16, above 10^12 kurus for 17 to 20 */
+    FANZSOREB_DAY_CLOSED = 8,       /* a second control of a day; posting or withdrawing a standing bilateral sale,
+                                       counterparty above 0, of a day that was controlled */
     FANZSOREB_NO_ROOM = 9,          /* no entry free */
-    FANZSOREB_NO_ENTRY = 10,        /* no such entry; withdrawal of a mark or of one that does not stand */
-    FANZSOREB_BAD_LENGTH = 11,      /* opening below 3 words; month tables over 745 hours, or lengths that do not agree */
+    FANZSOREB_NO_ENTRY = 10,        /* no entry of this number; withdrawal of a mark or of one that does not stand */
+    FANZSOREB_BAD_LENGTH = 11,      /* opening below 12 bytes; month tables over 745 hours, or lengths that do not
+                                       agree */
     FANZSOREB_BAD_FIGURE = 12       /* another figure outside its range */
 };
 
-/* Entry types. */
+/* Entry types: 1 to 16 are volumes in kWh, 0 to 10^9; 17 to 20 are money in kurus, 0 to 10^12. */
 enum fanzsoreb_type {
     FANZSOREB_DAY_AHEAD_SALE = 1,
     FANZSOREB_INTRADAY_SALE = 2,
     FANZSOREB_FUTURES_SALE = 3,
     FANZSOREB_DEFAULT_DAY_AHEAD_SALE = 4,
     FANZSOREB_DEFAULT_INTRADAY_SALE = 5,
-    FANZSOREB_BILATERAL_SALE = 6,   /* to the counterparty; counterparty 0 is an export */
+    FANZSOREB_BILATERAL_SALE = 6,   /* to the counterparty; counterparty 0 is an export, counted nowhere */
     FANZSOREB_DAY_AHEAD_PURCHASE = 7,
     FANZSOREB_INTRADAY_PURCHASE = 8,
     FANZSOREB_FUTURES_PURCHASE = 9,
@@ -75,12 +99,14 @@ enum fanzsoreb_type {
     FANZSOREB_MARK = 21             /* a closed day; control writes it, no post does */
 };
 
+/* Only standing entries count. */
 enum fanzsoreb_status {
     FANZSOREB_STANDING = 0,
     FANZSOREB_WITHDRAWN = 1,
     FANZSOREB_CANCELLED = 2
 };
 
+/* Answers. `answer` is 0 or the cause. */
 typedef struct { uint32_t answer; uint32_t number; } fanzsoreb_posted;
 typedef struct { uint32_t answer; uint32_t count; } fanzsoreb_counted;
 typedef struct {
@@ -90,100 +116,129 @@ typedef struct {
 typedef struct { uint32_t answer; int64_t balance; } fanzsoreb_balance;
 typedef struct { uint32_t party; uint64_t sums[16]; } fanzsoreb_sums;
 typedef struct { uint32_t answer; fanzsoreb_sums tally; uint64_t bought; } fanzsoreb_tally_answer;
-typedef struct { uint64_t aosmf; int64_t aedm; } fanzsoreb_month_figures;
+typedef struct {
+    uint64_t aosmf;  /* average price, kurus per MWh */
+    int64_t aedm;    /* imbalance volume, kWh, negative is short */
+} fanzsoreb_month_figures;
 typedef struct { uint32_t answer; fanzsoreb_month_figures month; } fanzsoreb_month_answer;
 typedef struct { uint32_t answer; uint32_t recordable; } fanzsoreb_ceiling_answer;
 typedef struct { uint32_t answer, first, second, cancelled; } fanzsoreb_controlled;
 typedef struct { uint32_t answer; uint32_t posted; } fanzsoreb_file_read;
 typedef struct {
     uint32_t answer;
-    uint64_t margin, trading, imbalance, risk, yek, total;
+    uint64_t margin, trading, imbalance, risk, yek, total; /* kurus */
 } fanzsoreb_collateral_answer;
 
-/* The version of the library, FANZSOREB_VERSION at its making. */
+/* The version of the library: FANZSOREB_VERSION of the header that belongs to it. */
 uint32_t fanzsoreb_version(void);
 
-/* 1 if the bytes are a book, else 0. */
+/* 1 if the bytes are a book, else 0. Changes nothing. */
 uint32_t fanzsoreb_is_book(const uint8_t *book, size_t length);
 
-/* Opens a book with no entries: coefficient R in hundredths, 0 to 1,000; tolerance amount TM in kWh, 0 to
- * 200,000,000. Writes the first three words and no other. Causes: 1 (length no multiple of 4), 11, 12. */
+/* Opens a book with no entries in bytes of any values: coefficient R in hundredths, 0 to 1,000; tolerance amount TM
+ * in kWh, 0 to 200,000,000. Changes the first 12 bytes. Causes: 1 (a length that is no multiple of 4), 11 (a length
+ * below 12), 12 (R or TM outside its range). */
 uint32_t fanzsoreb_open(uint8_t *book, size_t length, uint32_t coefficient, uint32_t tolerance);
 
-/* The same with R 110 and TM 600,000. */
+/* The same with R 110 and TM 600,000. Changes the first 12 bytes. Causes: 1, 11. */
 uint32_t fanzsoreb_open_default(uint8_t *book, size_t length);
 
-/* Appends one standing entry; its number, counted from 0. Writes the entry's five words and the count.
- * Causes: 1, 3, 4, 5, 6, 7, 8, 9. Each call checks the whole book: for many lines read a day file. */
+/* Appends one standing entry; its number, counted from 0. Party 1 to 999; day 0 to 36,524; type 1 to 20; counterparty
+ * 0 outside type 6, in type 6 0 to 999 and not the party; amount 0 to 10^9 kWh for types 1 to 16, 0 to 10^12 kurus
+ * for 17 to 20. Changes the 20 bytes after the last entry, and the number of entries. Causes: 1, 3, 4, 5, 6, 7, 8
+ * (type 6, counterparty above 0, on a closed day), 9. Each call checks the whole book: for many lines read a day
+ * file. */
 fanzsoreb_posted fanzsoreb_post(uint8_t *book, size_t length, uint32_t party, uint32_t day, uint32_t entry_type,
                                 uint32_t counterparty, uint64_t amount);
 
-/* Withdraws an entry by its number: status 1. Writes one word. Causes: 1, 8, 10. */
+/* Withdraws a standing entry by its number; its place is not used again. Changes the entry's status, to 1. Causes: 1,
+ * 8 (a standing type 6, counterparty above 0, of a closed day), 10 (no such entry, a mark, or one that does not
+ * stand). */
 uint32_t fanzsoreb_withdraw(uint8_t *book, size_t length, uint32_t number);
 
-/* The number of entries. Cause: 1. */
+/* The number of entries, of every status and marks too. Cause: 1. Changes nothing. */
 fanzsoreb_counted fanzsoreb_count(const uint8_t *book, size_t length);
 
-/* One entry by its number. Causes: 1, 10. */
+/* One entry by its number, of any status: its party, day, type, counterparty, status, and amount in kWh or kurus. A
+ * mark has type 21 and a day, its other figures are 0. Causes: 1, 10 (number not below the number of entries).
+ * Changes nothing. */
 fanzsoreb_entry_read fanzsoreb_entry(const uint8_t *book, size_t length, uint32_t number);
 
-/* A party's sums of a day, sums[k - 1] for volume type k, and B, what others sold to it. Causes: 1, 3, 4. */
+/* A party's sums of a day over standing entries, in kWh: sums[k - 1] for volume type k, sum 6 without exports; and B,
+ * what others sold to it by standing type 6. Party 1 to 999, day 0 to 36,524. Causes: 1, 3, 4. Changes nothing. */
 fanzsoreb_tally_answer fanzsoreb_tally(const uint8_t *book, size_t length, uint32_t party, uint32_t day);
 
-/* The two unrequited volumes, in hundredths of a kWh. Causes: 1, 3, 4. */
+/* The two unrequited volumes of a party's day, in hundredths of a kWh, within 30,720,000,000,000,000 either way: 100
+ * times its sales, less the larger of 100 times TM and R times its cover. Party 1 to 999, day 0 to 36,524. Causes: 1,
+ * 3, 4. Change nothing. */
 fanzsoreb_balance fanzsoreb_day_ahead(const uint8_t *book, size_t length, uint32_t party, uint32_t day);
 fanzsoreb_balance fanzsoreb_delivery(const uint8_t *book, size_t length, uint32_t party, uint32_t day);
 
-/* 1 if a balance is detected: above zero. Zero is clear. */
+/* 1 if a balance, of any value, is detected: above zero. Else 0: zero is clear. */
 uint32_t fanzsoreb_detected(int64_t balance);
 
-/* Whether a settlement period's offer is recordable (1 or 0): offer, net bilateral purchase, net futures
- * position and capacity, each 0 to 10^9 kWh. Cause: 12. */
+/* Whether a settlement period's offer is recordable (1 or 0): offer, net bilateral purchase, net futures position and
+ * capacity, each 0 to 10^9 kWh. Cause: 12. */
 fanzsoreb_ceiling_answer fanzsoreb_ceiling(uint32_t offer, uint32_t bilateral, uint32_t futures, uint32_t capacity);
 
-/* The month step. Tables as little-endian bytes: a 32-bit price an hour; rows x hours signed 32-bit imbalances,
- * row after row; a signed 32-bit DM an hour. Lengths in bytes. AOSMF, and AEDM of the group asked.
- * Causes: 11 (also a length that is no multiple of 4), 12. */
+/* The month step, on three tables of 32-bit figures as bytes, little-endian, with lengths in bytes:
+ *   prices     one an hour, 0 to 1,000,000 kurus per MWh, for 0 to 745 hours
+ *   imbalance  rows x hours, row after row, a row a group, each -10,000,000 to 10,000,000 kWh, negative is short
+ *   dm         secondary control, one an hour, in the same range
+ * rows is 1 to 64; group, the one asked, is below rows. AOSMF in kurus per MWh, 0 to 1,000,000: the average price of
+ * all rows weighted by imbalance without its sign, halves up, 0 where there is no imbalance. AEDM in kWh, signed,
+ * within 14,900,000,000 either way: imbalance less DM of the group asked. Causes: 11 (a length that is no multiple of
+ * 4, more than 745 hours, an imbalance table of not rows x hours figures or a DM table of not one an hour), 12 (rows,
+ * group or a figure outside its range). Changes nothing. */
 fanzsoreb_month_answer fanzsoreb_month(const uint8_t *prices, size_t prices_length,
                                        const uint8_t *imbalance, size_t imbalance_length, uint32_t rows,
                                        const uint8_t *dm, size_t dm_length, uint32_t group);
 
-/* The collateral of a case on a book: each item and the total. Causes: 1, 3, 4, 12. See fanzsoreb_collateral_of. */
-fanzsoreb_collateral_answer fanzsoreb_collateral(
-    const uint8_t *book, size_t length, uint32_t party, uint32_t day, uint32_t licence, uint64_t capacity,
-    uint32_t nonbusiness, uint32_t holiday, uint32_t defaults, uint32_t responsible, uint64_t aosmf1, int64_t aedm1,
-    uint64_t aosmf2, int64_t aedm2, uint64_t aosmf3, int64_t aedm3, uint32_t used, uint32_t rk, uint64_t rt,
-    uint64_t yt, uint32_t score, uint32_t best);
-
-/* Control of a day: parties detected in each pass and entries cancelled. Changes the status of bilateral sales of
- * the day, appends a mark, and raises the count. Causes: 1, 4, 8, 9. */
+/* Control of a day, 0 to 36,524: how many parties were detected in each pass, and how many entries were cancelled.
+ * Changes the status of the day's standing bilateral sales that it cancels, to 2; the 20 bytes after the last entry,
+ * which become the day's mark; and the number of entries. From then on the day is closed. Causes: 1, 4, 8, 9. */
 fanzsoreb_controlled fanzsoreb_control(uint8_t *book, size_t length, uint32_t day);
 
-/* Reads a day file into a book: all lines are posted, or none. Causes: 1, 2, then in file order the first faulty
- * line or empty block (3 to 8), then 9. */
+/* Reads a day file into a book: all lines are posted, or none; how many were. A file is 0 to 65,536 bytes,
+ * little-endian words in blocks: kind 1, party in bits 0-15 and the number of lines, 0 to 4,095, in bits 16-27; then
+ * kind 2, day; then three words a line, of kinds 3, 4 and 5 as in a book, status 0. Changes the entries of the lines
+ * posted, 20 bytes a line after the last entry, and the number of entries; a file without lines changes nothing.
+ * Causes: 1, 2, then in file order that of the first faulty line (3 to 8, as of a post) or block without lines (3 or
+ * 4), then 9 if the lines do not fit. */
 fanzsoreb_file_read fanzsoreb_read_file(uint8_t *book, size_t length, const uint8_t *file, size_t file_length);
 
-/* A collateral case. Begin with FANZSOREB_SUPPLIER, a plain supplier's: all figures 0, best score 1, k 3, own group. */
+/* A collateral case. Begin with FANZSOREB_SUPPLIER, a plain supplier's: all figures 0, best score 1, own group. */
 typedef struct {
-    uint32_t party;
-    uint32_t day;                       /* g */
+    uint32_t party;                     /* 1 to 999 */
+    uint32_t day;                       /* g, 0 to 36,524 */
     uint32_t licence;                   /* 0 supply, 1 transmission, 2 generation */
-    uint64_t capacity;                  /* kW, 0 to 10^8 */
-    uint32_t nonbusiness;               /* non-business days h, 0 to 29 */
-    uint32_t holiday;                   /* 1 if g is before a holiday */
+    uint64_t capacity;                  /* kW, 0 to 10^8 for every licence */
+    uint32_t nonbusiness;               /* non-business days h, 0 to 29: k is 3 up to 2, else 1 + h */
+    uint32_t holiday;                   /* 1 if g is before a holiday, else 0 */
     uint32_t defaults;                  /* default days t, 0 to 30 */
-    uint32_t responsible;               /* 1 if responsible for its group */
-    fanzsoreb_month_figures months[3];  /* month answers, latest first */
+    uint32_t responsible;               /* 1 if responsible for its group, else 0: neither imbalance nor risk */
+    fanzsoreb_month_figures months[3];  /* month answers, latest first. Each used: aosmf 0 to 1,000,000 kurus per MWh,
+                                           aedm within 14,900,000,000 kWh either way. Those not used may be anything */
     uint32_t used;                      /* how many of them are used, 0 to 3 */
-    uint32_t rk;                        /* risk coefficient in hundredths, 0 to 500 */
-    uint64_t rt;                        /* risk collateral, 0 to 10^15 */
-    uint64_t yt;                        /* YEK amount, 0 to 10^14 */
+    uint32_t rk;                        /* risk coefficient RK in hundredths, 0 to 500 */
+    uint64_t rt;                        /* risk collateral RT, kurus, 0 to 10^15 */
+    uint64_t yt;                        /* YEK amount YT, kurus, 0 to 10^14 */
     uint32_t score;                     /* credit score T, 0 to M; 0 without consent */
     uint32_t best;                      /* best credit score M, 1 to 10,000 */
 } fanzsoreb_case;
 
 #define FANZSOREB_SUPPLIER { 0, 0, 0, 0, 0, 0, 0, 1, { { 0, 0 }, { 0, 0 }, { 0, 0 } }, 0, 0, 0, 0, 0, 1 }
 
+/* The collateral of a case on a book, in kurus: each item, each division rounded up, and the total, the larger of
+ * margin and trading + imbalance + risk + YEK, 8,854,500,000,000,000 at most. The figures are those of
+ * fanzsoreb_case, in its order and ranges. Causes: 1, 3, 4, 12 (another figure outside its range). Changes nothing. */
+fanzsoreb_collateral_answer fanzsoreb_collateral(
+    const uint8_t *book, size_t length, uint32_t party, uint32_t day, uint32_t licence, uint64_t capacity,
+    uint32_t nonbusiness, uint32_t holiday, uint32_t defaults, uint32_t responsible, uint64_t aosmf1, int64_t aedm1,
+    uint64_t aosmf2, int64_t aedm2, uint64_t aosmf3, int64_t aedm3, uint32_t used, uint32_t rk, uint64_t rt,
+    uint64_t yt, uint32_t score, uint32_t best);
+
+/* The same, of a case; its pointer is not null. */
 static inline fanzsoreb_collateral_answer fanzsoreb_collateral_of(const uint8_t *book, size_t length,
                                                                   const fanzsoreb_case *c)
 {
@@ -193,7 +248,7 @@ static inline fanzsoreb_collateral_answer fanzsoreb_collateral_of(const uint8_t 
                                 c->rk, c->rt, c->yt, c->score, c->best);
 }
 
-/* What a cause means, in English. */
+/* What an answer means, in English; "unknown" where it is none of the list. */
 static inline const char *fanzsoreb_cause_name(uint32_t answer)
 {
     switch (answer) {

@@ -1,0 +1,172 @@
+/* Is it a book, open, post, withdraw, the number of entries and one entry (document 01, 'The words', 'Entry types'). */
+
+/* The cause of a post; a refused one has no number. */
+static uint32_t post(uint32_t party, uint32_t day, uint32_t type, uint32_t counterparty, uint64_t amount)
+{
+    fanzsoreb_posted p = fanzsoreb_post(book, lent, party, day, type, counterparty, amount);
+    CHECK(p.answer == FANZSOREB_DONE || p.number == 0);
+    return p.answer;
+}
+
+/* The cause of reading an entry; a refused call has no figure. */
+static uint32_t entry_cause(uint32_t number)
+{
+    fanzsoreb_entry_read e = fanzsoreb_entry(book, lent, number);
+    CHECK(e.answer == FANZSOREB_DONE || (e.party | e.day | e.entry_type | e.counterparty | e.status | e.amount) == 0);
+    return e.answer;
+}
+
+/* A book by default, filled with a byte that no entry has. */
+static void fresh(size_t offset)
+{
+    lend(offset, FANZSOREB_BOOK_BYTES, 0xEE);
+    CHECK(fanzsoreb_open_default(book, lent) == FANZSOREB_DONE);
+}
+
+static void opens(size_t offset)
+{
+    lend(offset, FANZSOREB_BOOK_BYTES, 0xEE);
+    REFUSED(fanzsoreb_open(book, lent - 1, 1001, 0), FANZSOREB_NOT_A_BOOK);
+    REFUSED(fanzsoreb_open(book, 8, 1001, 0), FANZSOREB_BAD_LENGTH);
+    REFUSED(fanzsoreb_open(book, lent, 1001, 0), FANZSOREB_BAD_FIGURE);
+    REFUSED(fanzsoreb_open(book, lent, 0, 200000001), FANZSOREB_BAD_FIGURE);
+    put(0, 0x60000000);
+    put(1, 0x700003E8); /* 1,000 */
+    put(2, 0x8BEBC200); /* 200,000,000 */
+    CHECK(fanzsoreb_open(book, lent, 1000, 200000000) == FANZSOREB_DONE);
+    CHECK(as_expected());
+
+    REFUSED(fanzsoreb_open_default(book, 14), FANZSOREB_NOT_A_BOOK);
+    REFUSED(fanzsoreb_open_default(book, 8), FANZSOREB_BAD_LENGTH);
+    put(1, 0x7000006E); /* 110 */
+    put(2, 0x800927C0); /* 600,000 */
+    CHECK(fanzsoreb_open_default(book, lent) == FANZSOREB_DONE);
+    CHECK(as_expected());
+}
+
+static void is_book(size_t offset)
+{
+    lend(offset, FANZSOREB_BOOK_BYTES, 0xEE);
+    CHECK(fanzsoreb_is_book(book, lent) == 0);
+    CHECK(fanzsoreb_open(book, lent, 0, 0) == FANZSOREB_DONE);
+    keep();
+    CHECK(fanzsoreb_is_book(book, lent) == 1);
+    CHECK(fanzsoreb_is_book(book, 12) == 1);
+    CHECK(fanzsoreb_is_book(book, 8) == 0);
+    CHECK(fanzsoreb_is_book(book, lent - 1) == 0);
+    CHECK(fanzsoreb_is_book(book, lent + 1) == 0);
+    CHECK(as_expected());
+    store(book, 0, 0x60000001); /* an entry of bytes 0xEE */
+    CHECK(fanzsoreb_is_book(book, lent) == 0);
+}
+
+/* The first two posts are the lines of document 01's sample file. */
+static void posts(size_t offset)
+{
+    fanzsoreb_posted p;
+    fresh(offset);
+    keep();
+    put(0, 0x60000001);
+    put(3, 0x10000001);
+    put(4, 0x20002328);
+    put(5, 0x30000206);
+    put(6, 0x400AAE60);
+    put(7, 0x50000000);
+    p = fanzsoreb_post(book, lent, 1, 9000, FANZSOREB_BILATERAL_SALE, 2, 700000);
+    CHECK(p.answer == FANZSOREB_DONE && p.number == 0);
+    CHECK(as_expected());
+    p = fanzsoreb_post(book, lent, 1, 9000, FANZSOREB_GENERATION_PROGRAM, 0, 500000);
+    CHECK(p.answer == FANZSOREB_DONE && p.number == 1);
+
+    keep();
+    put(0, 0x60000003);
+    put(13, 0x100003E7); /* 999 */
+    put(14, 0x20008EAC); /* 36,524 */
+    put(15, 0x30000011);
+    put(16, 0x44A51000); /* 10^12 = 3,725 x 2^28 + 77,926,400 */
+    put(17, 0x50000E8D);
+    p = fanzsoreb_post(book, lent, 999, 36524, FANZSOREB_DAY_AHEAD_PURCHASE_MONEY, 0, 1000000000000);
+    CHECK(p.answer == FANZSOREB_DONE && p.number == 2);
+    CHECK(as_expected());
+}
+
+static void posts_refused(size_t offset)
+{
+    fresh(offset);
+    REFUSED(post(0, 36525, 0, 1, 0), FANZSOREB_BAD_PARTY);
+    REFUSED(post(1000, 0, 1, 0, 0), FANZSOREB_BAD_PARTY);
+    REFUSED(post(1, 36525, 1, 0, 0), FANZSOREB_BAD_DAY);
+    REFUSED(post(1, 0, 0, 0, 0), FANZSOREB_BAD_TYPE);
+    REFUSED(post(1, 0, FANZSOREB_MARK, 0, 0), FANZSOREB_BAD_TYPE);
+    REFUSED(post(1, 0, FANZSOREB_DAY_AHEAD_SALE, 2, 0), FANZSOREB_BAD_COUNTERPARTY);
+    REFUSED(post(1, 0, FANZSOREB_BILATERAL_SALE, 1, 0), FANZSOREB_BAD_COUNTERPARTY);
+    REFUSED(post(1, 0, FANZSOREB_BILATERAL_SALE, 1000, 0), FANZSOREB_BAD_COUNTERPARTY);
+    REFUSED(post(1, 0, FANZSOREB_IMPORT_NOTIFICATION, 0, 1000000001), FANZSOREB_BAD_AMOUNT);
+    REFUSED(post(1, 0, FANZSOREB_INTRADAY_SALE_MONEY, 0, 1000000000001), FANZSOREB_BAD_AMOUNT);
+    CHECK(post(1, 0, FANZSOREB_BILATERAL_SALE, 0, 1000000000) == FANZSOREB_DONE);
+    CHECK(post(1, 0, FANZSOREB_BILATERAL_SALE, 999, 0) == FANZSOREB_DONE);
+    lent = FANZSOREB_BOOK_BYTES - 2;
+    REFUSED(post(1, 0, 1, 0, 0), FANZSOREB_NOT_A_BOOK);
+    lent = 12 + 2 * 20 + 16;
+    REFUSED(post(1, 0, 1, 0, 0), FANZSOREB_NO_ROOM);
+    lent = 12 + 3 * 20;
+    CHECK(post(1, 0, 1, 0, 0) == FANZSOREB_DONE);
+}
+
+static void withdraws(size_t offset)
+{
+    fresh(offset);
+    CHECK(post(1, 9000, FANZSOREB_BILATERAL_SALE, 2, 700000) == FANZSOREB_DONE);
+    CHECK(post(1, 9000, FANZSOREB_GENERATION_PROGRAM, 0, 500000) == FANZSOREB_DONE);
+    keep();
+    put(5, 0x31000206);
+    CHECK(fanzsoreb_withdraw(book, lent, 0) == FANZSOREB_DONE);
+    CHECK(as_expected());
+    REFUSED(fanzsoreb_withdraw(book, lent, 0), FANZSOREB_NO_ENTRY);
+    REFUSED(fanzsoreb_withdraw(book, lent, 2), FANZSOREB_NO_ENTRY);
+    REFUSED(fanzsoreb_withdraw(book, lent, 4294967295u), FANZSOREB_NO_ENTRY);
+    REFUSED(fanzsoreb_withdraw(book, lent - 4 * 15351, 1), FANZSOREB_NOT_A_BOOK); /* 12 words, 13 in use */
+}
+
+static void reads(size_t offset)
+{
+    fanzsoreb_counted n;
+    fanzsoreb_entry_read e;
+    fresh(offset);
+    CHECK(post(1, 9000, FANZSOREB_BILATERAL_SALE, 2, 700000) == FANZSOREB_DONE);
+    CHECK(post(3, 9001, FANZSOREB_DAY_AHEAD_SALE_MONEY, 0, 999999999999) == FANZSOREB_DONE);
+    CHECK(fanzsoreb_withdraw(book, lent, 0) == FANZSOREB_DONE);
+    keep();
+    n = fanzsoreb_count(book, lent);
+    CHECK(n.answer == FANZSOREB_DONE && n.count == 2);
+    n = fanzsoreb_count(book, lent - 1);
+    CHECK(n.answer == FANZSOREB_NOT_A_BOOK && n.count == 0);
+    e = fanzsoreb_entry(book, lent, 0);
+    CHECK(e.answer == FANZSOREB_DONE && e.party == 1 && e.day == 9000 && e.entry_type == FANZSOREB_BILATERAL_SALE);
+    CHECK(e.counterparty == 2 && e.status == FANZSOREB_WITHDRAWN && e.amount == 700000);
+    e = fanzsoreb_entry(book, lent, 1);
+    CHECK(e.answer == FANZSOREB_DONE && e.party == 3 && e.day == 9001);
+    CHECK(e.entry_type == FANZSOREB_DAY_AHEAD_SALE_MONEY && e.counterparty == 0);
+    CHECK(e.status == FANZSOREB_STANDING && e.amount == 999999999999);
+    CHECK(entry_cause(2) == FANZSOREB_NO_ENTRY);
+    CHECK(as_expected());
+    store(book, 1, 0x700003E9); /* R 1,001 */
+    CHECK(entry_cause(0) == FANZSOREB_NOT_A_BOOK);
+}
+
+/* A slice longer than a full book: 3,072 entries are its room, and the bytes past them stay. */
+static void longer(size_t offset)
+{
+    uint32_t i;
+    unsigned done = 0;
+    lend(offset, FANZSOREB_BOOK_BYTES + 40, 0xEE);
+    CHECK(fanzsoreb_open_default(book, lent) == FANZSOREB_DONE);
+    for (i = 0; i < FANZSOREB_MOST_ENTRIES; i++)
+        done += fanzsoreb_post(book, lent, 1, i, FANZSOREB_DAY_AHEAD_SALE, 0, 1).number == i;
+    CHECK(done == FANZSOREB_MOST_ENTRIES);
+    REFUSED(post(1, 0, 1, 0, 0), FANZSOREB_NO_ROOM);
+    for (i = 0; i < 40; i++)
+        done -= book[FANZSOREB_BOOK_BYTES + i] == 0xEE;
+    CHECK(done == FANZSOREB_MOST_ENTRIES - 40);
+    CHECK(fanzsoreb_count(book, FANZSOREB_BOOK_BYTES).count == FANZSOREB_MOST_ENTRIES);
+}

@@ -1,0 +1,145 @@
+/* Control of a day, and a day file (document 01, 'Control of a day', 'Day file'). */
+
+static uint32_t control_cause(uint32_t day)
+{
+    fanzsoreb_controlled c = fanzsoreb_control(book, lent, day);
+    CHECK(c.answer == FANZSOREB_DONE || (c.first | c.second | c.cancelled) == 0);
+    return c.answer;
+}
+
+/* Party 1 sells 700,000 to 2 against a program of 500,000, and 2 sells as much to 3: 1 is detected, 2 is covered by its
+ * purchase. */
+static void controlled_day(size_t offset)
+{
+    fanzsoreb_controlled c;
+    fresh(offset);
+    CHECK(post(1, 9000, FANZSOREB_BILATERAL_SALE, 2, 700000) == FANZSOREB_DONE);
+    CHECK(post(1, 9000, FANZSOREB_GENERATION_PROGRAM, 0, 500000) == FANZSOREB_DONE);
+    CHECK(post(1, 9000, FANZSOREB_BILATERAL_SALE, 0, 1) == FANZSOREB_DONE);
+    CHECK(post(2, 9000, FANZSOREB_BILATERAL_SALE, 3, 700000) == FANZSOREB_DONE);
+    keep();
+    put(0, 0x60000005);
+    put(5, 0x32000206);
+    put(23, 0x10000000);
+    put(24, 0x20002328);
+    put(25, 0x30000015);
+    put(26, 0x40000000);
+    put(27, 0x50000000);
+    c = fanzsoreb_control(book, lent, 9000);
+    CHECK(c.answer == FANZSOREB_DONE && c.first == 1 && c.second == 0 && c.cancelled == 1);
+    CHECK(as_expected());
+}
+
+/* The same sales on the next day: the pair 1, 2 is repeated, and 2 is detected without its purchase. */
+static void repeated_pair(size_t offset)
+{
+    fanzsoreb_controlled c;
+    controlled_day(offset);
+    CHECK(post(1, 9001, FANZSOREB_BILATERAL_SALE, 2, 700000) == FANZSOREB_DONE);
+    CHECK(post(2, 9001, FANZSOREB_BILATERAL_SALE, 3, 700000) == FANZSOREB_DONE);
+    c = fanzsoreb_control(book, lent, 9001);
+    CHECK(c.answer == FANZSOREB_DONE && c.first == 1 && c.second == 1 && c.cancelled == 2);
+    CHECK(fanzsoreb_entry(book, lent, 5).status == FANZSOREB_CANCELLED);
+    CHECK(fanzsoreb_entry(book, lent, 6).status == FANZSOREB_CANCELLED);
+    CHECK(fanzsoreb_entry(book, lent, 7).entry_type == FANZSOREB_MARK);
+}
+
+static void closed_day(size_t offset)
+{
+    controlled_day(offset);
+    REFUSED(control_cause(9000), FANZSOREB_DAY_CLOSED);
+    REFUSED(control_cause(36525), FANZSOREB_BAD_DAY);
+    REFUSED(post(4, 9000, FANZSOREB_BILATERAL_SALE, 5, 1), FANZSOREB_DAY_CLOSED);
+    REFUSED(fanzsoreb_withdraw(book, lent, 3), FANZSOREB_DAY_CLOSED);
+    REFUSED(fanzsoreb_withdraw(book, lent, 0), FANZSOREB_NO_ENTRY); /* cancelled */
+    REFUSED(fanzsoreb_withdraw(book, lent, 4), FANZSOREB_NO_ENTRY); /* the mark */
+    CHECK(fanzsoreb_withdraw(book, lent, 2) == FANZSOREB_DONE);     /* an export */
+    CHECK(post(4, 9000, FANZSOREB_DAY_AHEAD_SALE, 0, 1) == FANZSOREB_DONE);
+    lent = 12 + 6 * 20;
+    REFUSED(control_cause(9001), FANZSOREB_NO_ROOM);
+    lent = 12 + 6 * 20 - 1;
+    REFUSED(control_cause(9001), FANZSOREB_NOT_A_BOOK);
+}
+
+/* A file of words, at any address. */
+static uint8_t file_bytes[FANZSOREB_MOST_FILE_BYTES + 8];
+static uint8_t *file;
+
+static uint32_t file_cause(size_t length)
+{
+    fanzsoreb_file_read r = fanzsoreb_read_file(book, lent, file, length);
+    CHECK(r.answer == FANZSOREB_DONE || r.posted == 0);
+    return r.answer;
+}
+
+/* The sample of document 01, and a block without lines after it. */
+static void sample(size_t offset)
+{
+    static const uint32_t words[] = { 0x10020001, 0x20002328, 0x30000206, 0x400AAE60, 0x50000000,
+                                      0x3000000C, 0x4007A120, 0x50000000, 0x10000003, 0x20002329 };
+    size_t i;
+    file = file_bytes + offset;
+    for (i = 0; i < 10; i++)
+        store(file, i, words[i]);
+}
+
+static void reads_a_file(size_t offset)
+{
+    fanzsoreb_file_read r;
+    uint32_t i;
+    fresh(offset);
+    sample(offset ^ 1);
+    REFUSED(file_cause(0), FANZSOREB_DONE); /* an empty file changes nothing */
+    keep();
+    put(0, 0x60000002);
+    put(3, 0x10000001);
+    put(4, 0x20002328);
+    put(8, 0x10000001);
+    put(9, 0x20002328);
+    for (i = 0; i < 3; i++)
+        put(5 + i, i == 0 ? 0x30000206 : i == 1 ? 0x400AAE60 : 0x50000000);
+    for (i = 0; i < 3; i++)
+        put(10 + i, i == 0 ? 0x3000000C : i == 1 ? 0x4007A120 : 0x50000000);
+    r = fanzsoreb_read_file(book, lent, file, 40);
+    CHECK(r.answer == FANZSOREB_DONE && r.posted == 2);
+    CHECK(as_expected());
+    CHECK(day_ahead(1, 9000) == 10000000 && delivery(1, 9000) == 10000000);
+    CHECK(day_ahead(2, 9000) == -77000000 && delivery(2, 9000) == -77000000);
+    r = fanzsoreb_read_file(book, lent, file, 32);
+    CHECK(r.answer == FANZSOREB_DONE && r.posted == 2 && fanzsoreb_count(book, lent).count == 4);
+}
+
+/* One word of the sample changed: the cause of its 40 bytes. */
+static uint32_t changed(size_t offset, size_t i, uint32_t word)
+{
+    sample(offset);
+    store(file, i, word);
+    return file_cause(40);
+}
+
+static void files_refused(size_t offset)
+{
+    fresh(offset);
+    sample(offset ^ 1);
+    REFUSED(file_cause(39), FANZSOREB_BAD_FILE);
+    REFUSED(file_cause(36), FANZSOREB_BAD_FILE);
+    REFUSED(file_cause(FANZSOREB_MOST_FILE_BYTES + 4), FANZSOREB_BAD_FILE);
+    REFUSED(changed(offset, 2, 0x31000206), FANZSOREB_BAD_FILE); /* status 1 */
+    REFUSED(changed(offset, 8, 0x10000000), FANZSOREB_BAD_PARTY);
+    REFUSED(changed(offset, 9, 0x20008EAD), FANZSOREB_BAD_DAY);
+    REFUSED(changed(offset, 5, 0x30000015), FANZSOREB_BAD_TYPE);
+    REFUSED(changed(offset, 2, 0x30000106), FANZSOREB_BAD_COUNTERPARTY);
+    REFUSED(changed(offset, 4, 0x50000004), FANZSOREB_BAD_AMOUNT);
+    sample(offset);
+    store(file, 4, 0x50000004); /* the first line's amount, and the second line's type */
+    store(file, 5, 0x30000015);
+    REFUSED(file_cause(40), FANZSOREB_BAD_AMOUNT);
+    sample(offset);
+    lent = 12 + 20;
+    REFUSED(file_cause(40), FANZSOREB_NO_ROOM);
+    lent = 12 + 21;
+    REFUSED(file_cause(39), FANZSOREB_NOT_A_BOOK);
+    controlled_day(offset);
+    sample(offset);
+    REFUSED(file_cause(40), FANZSOREB_DAY_CLOSED);
+}

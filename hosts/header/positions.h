@@ -1,0 +1,211 @@
+/* Tally, both balances, detection, sales ceiling, month step (document 01, 'The two balances', 'Sales ceiling',
+ * 'Month step'). */
+
+/* The cause of a tally; a refused one has no figure. */
+static uint32_t tally_cause(uint32_t party, uint32_t day)
+{
+    fanzsoreb_tally_answer t = fanzsoreb_tally(book, lent, party, day);
+    uint64_t any = t.bought | t.tally.party;
+    int k;
+    for (k = 0; k < 16; k++)
+        any |= t.tally.sums[k];
+    CHECK(t.answer == FANZSOREB_DONE || any == 0);
+    return t.answer;
+}
+
+/* The cause of both balances, which have the same ones; a refused balance is 0. */
+static uint32_t balance_cause(uint32_t party, uint32_t day)
+{
+    fanzsoreb_balance ahead = fanzsoreb_day_ahead(book, lent, party, day);
+    fanzsoreb_balance delivery = fanzsoreb_delivery(book, lent, party, day);
+    CHECK(ahead.answer == delivery.answer);
+    CHECK(ahead.answer == FANZSOREB_DONE || (ahead.balance == 0 && delivery.balance == 0));
+    return ahead.answer;
+}
+
+static int64_t day_ahead(uint32_t party, uint32_t day)
+{
+    return fanzsoreb_day_ahead(book, lent, party, day).balance;
+}
+
+static int64_t delivery(uint32_t party, uint32_t day)
+{
+    return fanzsoreb_delivery(book, lent, party, day).balance;
+}
+
+/* Party 1 has k x 1,000 of each volume type k, an export and another day's sale; party 3 sells it 77. R 110, TM 0. */
+static void sixteen_types(size_t offset)
+{
+    uint32_t k;
+    lend(offset, FANZSOREB_BOOK_BYTES, 0xEE);
+    CHECK(fanzsoreb_open(book, lent, 110, 0) == FANZSOREB_DONE);
+    for (k = 1; k <= 16; k++)
+        CHECK(post(1, 9000, k, k == FANZSOREB_BILATERAL_SALE ? 2 : 0, 1000 * k) == FANZSOREB_DONE);
+    CHECK(post(1, 9000, FANZSOREB_BILATERAL_SALE, 0, 5) == FANZSOREB_DONE);
+    CHECK(post(1, 9001, FANZSOREB_DAY_AHEAD_SALE, 0, 5) == FANZSOREB_DONE);
+    CHECK(post(3, 9000, FANZSOREB_BILATERAL_SALE, 1, 77) == FANZSOREB_DONE);
+}
+
+static void tallies(size_t offset)
+{
+    fanzsoreb_tally_answer t;
+    unsigned k;
+    sixteen_types(offset);
+    keep();
+    t = fanzsoreb_tally(book, lent, 1, 9000);
+    CHECK(t.answer == FANZSOREB_DONE && t.tally.party == 1 && t.bought == 77);
+    for (k = 1; k <= 16; k++)
+        CHECK(t.tally.sums[k - 1] == 1000 * k);
+    CHECK(tally_cause(0, 36525) == FANZSOREB_BAD_PARTY);
+    CHECK(tally_cause(1, 36525) == FANZSOREB_BAD_DAY);
+    CHECK(as_expected());
+    lent = 11;
+    CHECK(tally_cause(1, 9000) == FANZSOREB_NOT_A_BOOK);
+}
+
+static void balances(size_t offset)
+{
+    sixteen_types(offset);
+    keep();
+    CHECK(day_ahead(1, 9000) == -7518470); /* 100 x 14,000 - 110 x (65,000 + 77 + 16,000) */
+    CHECK(delivery(1, 9000) == -8908470);  /* 100 x 21,000 - 110 x (84,000 + 77 + 16,000) */
+    CHECK(day_ahead(2, 9000) == -660000 && delivery(2, 9000) == -660000);
+    CHECK(day_ahead(3, 9000) == 7700 && delivery(3, 9000) == 7700);
+    CHECK(balance_cause(3, 9000) == FANZSOREB_DONE);
+    CHECK(balance_cause(1000, 36525) == FANZSOREB_BAD_PARTY);
+    CHECK(balance_cause(1, 36525) == FANZSOREB_BAD_DAY);
+    CHECK(as_expected());
+    lent = 8;
+    CHECK(balance_cause(1, 9000) == FANZSOREB_NOT_A_BOOK);
+
+    fresh(offset);
+    CHECK(day_ahead(1, 9000) == -60000000 && delivery(1, 9000) == -60000000);
+    CHECK(post(1, 9000, FANZSOREB_DAY_AHEAD_SALE, 0, 600000) == FANZSOREB_DONE);
+    CHECK(day_ahead(1, 9000) == 0 && fanzsoreb_detected(day_ahead(1, 9000)) == 0);
+    CHECK(post(1, 9000, FANZSOREB_DAY_AHEAD_SALE, 0, 1) == FANZSOREB_DONE);
+    CHECK(day_ahead(1, 9000) == 100 && fanzsoreb_detected(day_ahead(1, 9000)) == 1);
+}
+
+static void detection(void)
+{
+    CHECK(fanzsoreb_detected(1) == 1 && fanzsoreb_detected(INT64_MAX) == 1);
+    CHECK(fanzsoreb_detected(0) == 0 && fanzsoreb_detected(-1) == 0 && fanzsoreb_detected(INT64_MIN) == 0);
+}
+
+/* The cause of a ceiling; a refused one is not recordable. */
+static uint32_t ceiling_cause(uint32_t offer, uint32_t bilateral, uint32_t futures, uint32_t capacity)
+{
+    fanzsoreb_ceiling_answer c = fanzsoreb_ceiling(offer, bilateral, futures, capacity);
+    CHECK(c.answer == FANZSOREB_DONE || c.recordable == 0);
+    return c.answer;
+}
+
+static uint32_t recordable(uint32_t offer, uint32_t bilateral, uint32_t futures, uint32_t capacity)
+{
+    return fanzsoreb_ceiling(offer, bilateral, futures, capacity).recordable;
+}
+
+static void ceilings(void)
+{
+    const uint32_t most = 1000000000;
+    CHECK(recordable(26000, 10000, 6666, 1000) == 1 && recordable(26001, 10000, 6666, 1000) == 0);
+    CHECK(recordable(30000, 20000, 0, 0) == 1 && recordable(30001, 20000, 0, 0) == 0);
+    CHECK(recordable(30000, 0, 20000, 0) == 1 && recordable(30001, 0, 20000, 0) == 0);
+    CHECK(recordable(25007, 0, 0, 7) == 1 && recordable(25008, 0, 0, 7) == 0);
+    CHECK(recordable(most, most, most, most) == 1 && ceiling_cause(most, most, most, most) == FANZSOREB_DONE);
+    CHECK(ceiling_cause(most + 1, 0, 0, 0) == FANZSOREB_BAD_FIGURE);
+    CHECK(ceiling_cause(0, most + 1, 0, 0) == FANZSOREB_BAD_FIGURE);
+    CHECK(ceiling_cause(0, 0, most + 1, 0) == FANZSOREB_BAD_FIGURE);
+    CHECK(ceiling_cause(0, 0, 0, most + 1) == FANZSOREB_BAD_FIGURE);
+}
+
+/* Month tables in lent bytes, at any address. */
+static uint8_t price_bytes[4 * 746 + 3], imbalance_bytes[4 * 745 * 64 + 3], dm_bytes[4 * 746 + 3];
+static uint8_t *prices, *imbalance, *dm;
+
+static fanzsoreb_month_answer month(size_t hours, size_t figures, uint32_t rows, uint32_t group)
+{
+    return fanzsoreb_month(prices, 4 * hours, imbalance, 4 * figures, rows, dm, 4 * hours, group);
+}
+
+/* The cause of a month step; a refused one has no figure. */
+static uint32_t month_cause(size_t hours, size_t figures, uint32_t rows, uint32_t group)
+{
+    fanzsoreb_month_answer m = month(hours, figures, rows, group);
+    CHECK(m.answer == FANZSOREB_DONE || (m.month.aosmf == 0 && m.month.aedm == 0));
+    return m.answer;
+}
+
+/* Two hours of two groups. Prices 1,000 and 4,000; -10, 20 and 30, -40; DM 5, -6. */
+static void two_groups(size_t offset)
+{
+    prices = price_bytes + offset;
+    imbalance = imbalance_bytes + offset;
+    dm = dm_bytes + offset;
+    store(prices, 0, 1000);
+    store(prices, 1, 4000);
+    store(imbalance, 0, (uint32_t)-10);
+    store(imbalance, 1, 20);
+    store(imbalance, 2, 30);
+    store(imbalance, 3, (uint32_t)-40);
+    store(dm, 0, 5);
+    store(dm, 1, (uint32_t)-6);
+}
+
+static void months(size_t offset)
+{
+    fanzsoreb_month_answer m;
+    two_groups(offset);
+    m = month(2, 4, 2, 0); /* (40 x 1,000 + 60 x 4,000) / 100; -10 - 5 + 20 + 6 */
+    CHECK(m.answer == FANZSOREB_DONE && m.month.aosmf == 2800 && m.month.aedm == 11);
+    m = month(2, 4, 2, 1); /* 30 - 5 - 40 + 6 */
+    CHECK(m.answer == FANZSOREB_DONE && m.month.aosmf == 2800 && m.month.aedm == -9);
+    m = fanzsoreb_month(prices, 8, prices, 8, 1, prices, 8, 0); /* one slice thrice: (1,000^2 + 4,000^2) / 5,000 */
+    CHECK(m.answer == FANZSOREB_DONE && m.month.aosmf == 3400 && m.month.aedm == 0);
+    m = month(0, 0, 64, 63);
+    CHECK(m.answer == FANZSOREB_DONE && m.month.aosmf == 0 && m.month.aedm == 0);
+    store(prices, 0, 100);
+    store(prices, 1, 101);
+    store(imbalance, 0, (uint32_t)-1);
+    store(imbalance, 1, (uint32_t)-1);
+    m = month(2, 2, 1, 0); /* 100.5, halves up; -1 - 5 - 1 + 6 */
+    CHECK(m.answer == FANZSOREB_DONE && m.month.aosmf == 101 && m.month.aedm == -1);
+}
+
+static void months_refused(size_t offset)
+{
+    two_groups(offset);
+    CHECK(fanzsoreb_month(prices, 7, imbalance, 16, 2, dm, 8, 0).answer == FANZSOREB_BAD_LENGTH);
+    CHECK(fanzsoreb_month(prices, 8, imbalance, 15, 2, dm, 8, 0).answer == FANZSOREB_BAD_LENGTH);
+    CHECK(fanzsoreb_month(prices, 8, imbalance, 16, 2, dm, 9, 0).answer == FANZSOREB_BAD_LENGTH);
+    CHECK(fanzsoreb_month(prices, 8, imbalance, 16, 2, dm, 4, 0).answer == FANZSOREB_BAD_LENGTH);
+    CHECK(month_cause(2, 4, 3, 0) == FANZSOREB_BAD_LENGTH);
+    CHECK(month_cause(746, 746, 1, 0) == FANZSOREB_BAD_LENGTH);
+    CHECK(month_cause(2, 0, 0, 0) == FANZSOREB_BAD_FIGURE);
+    CHECK(month_cause(0, 0, 65, 0) == FANZSOREB_BAD_FIGURE);
+    CHECK(month_cause(2, 4, 2, 2) == FANZSOREB_BAD_FIGURE);
+    store(prices, 1, 1000001);
+    CHECK(month_cause(2, 4, 2, 0) == FANZSOREB_BAD_FIGURE);
+    two_groups(offset);
+    store(imbalance, 3, (uint32_t)-10000001);
+    CHECK(month_cause(2, 4, 2, 0) == FANZSOREB_BAD_FIGURE);
+    two_groups(offset);
+    store(dm, 0, 10000001);
+    CHECK(month_cause(2, 4, 2, 0) == FANZSOREB_BAD_FIGURE);
+}
+
+/* The largest tables: 745 hours of 64 groups, each price 10^6, each imbalance -10^7, each DM 10^7. */
+static void longest_month(size_t offset)
+{
+    fanzsoreb_month_answer m;
+    size_t i;
+    two_groups(offset);
+    for (i = 0; i < 745 * 64; i++)
+        store(imbalance, i, (uint32_t)-10000000);
+    for (i = 0; i < 745; i++) {
+        store(prices, i, 1000000);
+        store(dm, i, 10000000);
+    }
+    m = month(745, 745 * 64, 64, 63);
+    CHECK(m.answer == FANZSOREB_DONE && m.month.aosmf == 1000000 && m.month.aedm == -14900000000);
+}

@@ -1,0 +1,72 @@
+"""Holds the prototypes and structs of the header to the functions and structs that the library is made from: names,
+types and order of parameters and fields. Usage: source.py HEADER CRATES"""
+import pathlib
+import re
+import sys
+
+TYPES = {"u8": "uint8_t", "u32": "uint32_t", "u64": "uint64_t", "i64": "int64_t"}
+STRUCTS = {
+    "Posted": "posted", "Counted": "counted", "EntryRead": "entry_read", "BalanceAnswer": "balance", "Tally": "sums",
+    "TallyAnswer": "tally_answer", "Month": "month_figures", "MonthAnswer": "month_answer",
+    "CeilingAnswer": "ceiling_answer", "Controlled": "controlled", "FileRead": "file_read",
+    "Collateral": "collateral_answer",
+}
+
+
+def c_type(rattle):
+    return TYPES.get(rattle) or "fanzsoreb_" + STRUCTS[rattle]
+
+
+# a lent slice is a pointer and a length; the length of a book has no further name
+def c_parameter(text):
+    name, rattle = text.strip().split(": ")
+    if rattle not in ("&[u8]", "&mut [u8]"):
+        return c_type(rattle) + " " + name
+    const = "const " if rattle == "&[u8]" else ""
+    return const + "uint8_t *" + name + ", size_t " + ("length" if name == "book" else name + "_length")
+
+
+def c_field(text):
+    name, rattle = re.fullmatch(r"pub (\w+): (.+)", text.strip()).groups()
+    array = re.fullmatch(r"\[(\w+); (\d+)\]", rattle)
+    return c_type(array[1]) + " " + name + "[" + array[2] + "]" if array else c_type(rattle) + " " + name
+
+
+def parts(text):
+    return [p for p in text.split(",") if p.strip()]
+
+
+def of_source(crates):
+    found = set()
+    for path in (crates / "host/src").glob("*.rt"):
+        for name, given, answer in re.findall(r'pub extern "C" fn (\w+)\(([^)]*)\) -> (\w+)', path.read_text()):
+            found.add(c_type(answer) + " " + name + "(" + (", ".join(map(c_parameter, parts(given))) or "void") + ")")
+    for name, fields in re.findall(r"#\[repr\(C\)\]\npub struct (\w+) \{(.*?)\n\}", (crates / "rules/src/lib.rt").read_text(), re.S):
+        if name in STRUCTS:
+            found.add("fanzsoreb_" + STRUCTS[name] + " { " + "; ".join(map(c_field, parts(fields))) + " }")
+    return found
+
+
+# 'uint32_t a, b' is two fields
+def fields_of(text):
+    for declared in filter(str.strip, text.split(";")):
+        kind, names = declared.split(None, 1)
+        yield from (kind + " " + name.strip() for name in names.split(","))
+
+
+def of_header(header):
+    text = re.sub(r"/\*.*?\*/", "", header.read_text(), flags=re.S)
+    found = {" ".join(p.split()) for p in re.findall(r"^(\w+ fanzsoreb_\w+\([^)]*\));", text, re.M)}
+    for fields, name in re.findall(r"typedef struct \{([^}]*)\} (\w+);", text):
+        if name != "fanzsoreb_case":  # the header's own; fanzsoreb_collateral_of takes it apart
+            found.add(name + " { " + "; ".join(fields_of(fields)) + " }")
+    return {p.replace("( ", "(") for p in found}
+
+
+source, header = of_source(pathlib.Path(sys.argv[2])), of_header(pathlib.Path(sys.argv[1]))
+for line in sorted(source - header):
+    print("not in the header: " + line)
+for line in sorted(header - source):
+    print("not in the library: " + line)
+print(len(source), "prototypes and structs of the library,", len(header), "of the header")
+sys.exit(source != header)
