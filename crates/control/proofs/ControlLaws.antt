@@ -37,7 +37,7 @@ module _ (who : Parties) (d : ℕ) where
   one-cancels : (r : Record) → Cancels d r (cancelOne who d r)
   one-cancels r =
       elim (bool-cases (isToCancel who d r)) [
-        | inl e ↦ rw e (inr (to-cancel-is-sale r e, refl))
+        | inl e ↦ rw e (inr (to-cancel-is-sale who d r e, refl))
         | inr e ↦ rw e (inl refl)
       ]
 
@@ -45,7 +45,7 @@ module _ (who : Parties) (d : ℕ) where
   one-counted : (r : Record) → cond (isCancelled (cancelOne who d r)) 1 0 ≡ cond (isCancelled r) 1 0 + cond (isToCancel who d r) 1 0
   one-counted r =
       elim (bool-cases (isToCancel who d r)) [
-        | inl e ↦ rw (e, to-cancel-is-sale r e .stands)
+        | inl e ↦ rw (e, to-cancel-is-sale who d r e .stands)
         | inr e ↦ rw e (omega arith)
       ]
 
