@@ -12,7 +12,7 @@ use Rattle.numbers.specs.Causes.{unless, firstOf}
 use Rattle.numbers.proofs.TestLaws.{bool-cases, and-split}
 use Rattle.rules.specs.Entry.{partyOk, dayOk}
 use Rattle.rules.specs.Collateral.{monthOk, figuresOk}
-use Rattle.rules.specs.Compared.{IsParty, IsDay, AskedAnswer, inRange, noParty, noDay, UsedMonths, IsCase, CaseAnswer, allInRange, notAsked, noFigure}
+use Rattle.rules.specs.Compared.{IsParty, IsDay, AskedAnswer, askedDone, noParty, noDay, UsedInRange, IsCase, CaseAnswer, caseDone, notAsked, noFigure}
 use Rattle.rules.specs.declared.Month.{Month}
 use Rattle.rules.specs.declared.Case.{Case}
 use Rattle.rules.proofs.WordLaws.{within-true}
@@ -46,7 +46,7 @@ day-is : (d : ℕ) → dayOk d ≡ true → IsDay d
 day-is d e = leb-true d 36524 e
 
 -- month answers that are used
-months-are : (n : ℕ) (ms : List Month) → all monthOk (take n ms) ≡ true → UsedMonths n ms
+months-are : (n : ℕ) (ms : List Month) → all monthOk (take n ms) ≡ true → UsedInRange n ms
 unfolding all
 months-are zero ms e = tt
 months-are (suc n) [] e = tt
@@ -55,7 +55,7 @@ months-are (suc n) (m ∷ ms) e =
     let h = month-limit m (s .0) in
     (h .0, h .1, months-are n ms (s .1))
 
-are-months : (n : ℕ) (ms : List Month) → UsedMonths n ms → all monthOk (take n ms) ≡ true
+are-months : (n : ℕ) (ms : List Month) → UsedInRange n ms → all monthOk (take n ms) ≡ true
 unfolding all monthOk
 are-months zero ms h = refl
 are-months (suc n) [] h = refl
@@ -103,7 +103,7 @@ is-case c h =
 
 -- the answers of the claim are the calls' causes, and every question has one
 pub asked-cause : (p d k : ℕ) → AskedAnswer p d k → askedCause p d ≡ k
-asked-cause p d k (inRange h g) = rw (is-party p h, is-day d g)
+asked-cause p d k (askedDone h g) = rw (is-party p h, is-day d g)
 asked-cause p d k (noParty n) = rw (fails (partyOk p) (party-is p) n)
 asked-cause p d k (noDay h n) = rw (is-party p h, fails (dayOk d) (day-is d) n)
 
@@ -112,14 +112,14 @@ asked-answer p d =
     elim (bool-cases (partyOk p)) [
       | inl e ↦
           elim (bool-cases (dayOk d)) [
-            | inl g ↦ rw (e, g) (inRange (party-is p e) (day-is d g))
+            | inl g ↦ rw (e, g) (askedDone (party-is p e) (day-is d g))
             | inr g ↦ rw (e, g) (noDay (party-is p e) (refuses (dayOk d) (is-day d) g))
           ]
       | inr e ↦ rw e (noParty (refuses (partyOk p) (is-party p) e))
     ]
 
 pub case-cause : (c : Case) (k : ℕ) → CaseAnswer c k → caseCause c ≡ k
-case-cause c k (allInRange a h) = rw (asked-cause (c .asked .party) (c .asked .day) 0 a, is-case c h)
+case-cause c k (caseDone a h) = rw (asked-cause (c .asked .party) (c .asked .day) 0 a, is-case c h)
 case-cause c k (notAsked {k = j} a) = rw (asked-cause (c .asked .party) (c .asked .day) (suc j) a)
 case-cause c k (noFigure a n) = rw (asked-cause (c .asked .party) (c .asked .day) 0 a, fails (figuresOk c) (case-is c) n)
 
@@ -129,7 +129,7 @@ case-answer c = go (askedCause (c .asked .party) (c .asked .day)) (asked-answer 
     go : (k : ℕ) → AskedAnswer (c .asked .party) (c .asked .day) k → CaseAnswer c (firstOf (k ∷ unless (figuresOk c) 12 ∷ []))
     go zero a =
         elim (bool-cases (figuresOk c)) [
-          | inl e ↦ rw e (allInRange a (case-is c e))
+          | inl e ↦ rw e (caseDone a (case-is c e))
           | inr e ↦ rw e (noFigure a (refuses (figuresOk c) (is-case c) e))
         ]
     go (suc k) a = notAsked a

@@ -92,15 +92,15 @@ IsDay d = d ≤ 36524
 
 -- the answer of a call for a party and a day: 0, or the lowest cause
 pub data AskedAnswer (p d : ℕ) : ℕ → Type 0 where
-  inRange : IsParty p → IsDay d → AskedAnswer p d 0
+  askedDone : IsParty p → IsDay d → AskedAnswer p d 0
   noParty : ¬ IsParty p → AskedAnswer p d 3
   noDay : IsParty p → ¬ IsDay d → AskedAnswer p d 4
 
 -- the figures of a case in their ranges, month answers only if used (01, 'Collateral')
-abbrev pub UsedMonths : ℕ → List Month → Type 0
-UsedMonths zero ms = Unit {0}
-UsedMonths (suc n) [] = Unit {0}
-UsedMonths (suc n) (m ∷ ms) = (m .aosmf ≤ 1000000) × (natAbs (m .aedm) ≤ 14900000000) × UsedMonths n ms
+abbrev pub UsedInRange : ℕ → List Month → Type 0
+UsedInRange zero ms = Unit {0}
+UsedInRange (suc n) [] = Unit {0}
+UsedInRange (suc n) (m ∷ ms) = (m .aosmf ≤ 1000000) × (natAbs (m .aedm) ≤ 14900000000) × UsedInRange n ms
 
 pub record IsCase (c : Case) : Type 0 where
   pub licence : c .margin .licence ≤ 2
@@ -110,7 +110,7 @@ pub record IsCase (c : Case) : Type 0 where
   pub nonbusiness : c .trading .nonbusiness ≤ 29
   pub defaults : c .trading .defaults ≤ 30
   pub used : c .group .used ≤ 3
-  pub months : UsedMonths (c .group .used) (c .group .months)
+  pub months : UsedInRange (c .group .used) (c .group .months)
   pub rk : c .group .rk ≤ 500
   pub rt : c .group .rt ≤ 1000000000000000
   pub yt : c .yek .yt ≤ 100000000000000
@@ -119,6 +119,6 @@ pub record IsCase (c : Case) : Type 0 where
 
 -- the answer of a call for a case: that for its party and day, else 12 if another figure is out of its range
 pub data CaseAnswer (c : Case) : ℕ → Type 0 where
-  allInRange : AskedAnswer (c .asked .party) (c .asked .day) 0 → IsCase c → CaseAnswer c 0
+  caseDone : AskedAnswer (c .asked .party) (c .asked .day) 0 → IsCase c → CaseAnswer c 0
   notAsked : {k : ℕ} → AskedAnswer (c .asked .party) (c .asked .day) (suc k) → CaseAnswer c (suc k)
   noFigure : AskedAnswer (c .asked .party) (c .asked .day) 0 → ¬ IsCase c → CaseAnswer c 12
