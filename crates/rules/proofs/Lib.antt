@@ -18,3 +18,4 @@ pub mod BookFigures
 pub mod BalanceFigures
 pub mod MonthFigures
 pub mod CeilingFigures
+pub mod ComparedFigures
