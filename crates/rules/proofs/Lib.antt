@@ -29,3 +29,4 @@ pub mod CeilingFigures
 pub mod CollateralFigures
 pub mod ControlFigures
 pub mod FileFigures
+pub mod ComparedFigures

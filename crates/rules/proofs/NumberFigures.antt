@@ -53,9 +53,9 @@ numberFigures =
     ∷ eqb (sum 0 (λ k. k * k + 1)) 0
     ∷ eqb (total (λ k. k * k + 1) (2 ∷ 0 ∷ 2 ∷ [])) 11
     ∷ eqb (total (λ (k : ℕ). k) []) 0
-    -- below 5, the numbers 2, 3 and 4 are above 1; of 0, 2, 1 and 2 two are
+    -- below 5, the numbers 2, 3 and 4 are above 1; of 0, 2, 1, 2 and 2 three are
     ∷ eqb (countBelow 5 (ltb 1)) 3
-    ∷ eqb (count (ltb 1) (0 ∷ 2 ∷ 1 ∷ 2 ∷ [])) 2
+    ∷ eqb (count (ltb 1) (0 ∷ 2 ∷ 1 ∷ 2 ∷ 2 ∷ [])) 3
     -- one member that fails, first or last; one that passes, first or last; an empty list
     ∷ all (ltb 1) (2 ∷ 3 ∷ [])
     ∷ not (all (ltb 1) (1 ∷ 3 ∷ []))
