@@ -150,6 +150,11 @@ secondPasses =
     (sale 1 5 2 101 ∷ sale 2 5 3 202 ∷ void 1 6 2 7 ∷ entry 2 5 12 0 0 101 ∷ [])
     (void 1 5 2 101 ∷ sale 2 5 3 202 ∷ void 1 6 2 7 ∷ entry 2 5 12 0 0 101 ∷ [])
     1
+    -- a buyer detected in both passes, by a day-ahead sale of 203: its bilateral sale is cancelled, and counted, once
+    ∷ leaves
+    (sale 1 5 2 101 ∷ entry 2 5 1 0 0 203 ∷ void 1 6 2 7 ∷ sale 2 5 3 9 ∷ [])
+    (void 1 5 2 101 ∷ entry 2 5 1 0 0 203 ∷ void 1 6 2 7 ∷ void 2 5 3 9 ∷ [])
+    2
     -- likewise: the buyer's export, other day and withdrawn sale stay
     ∷ leaves
     (sale 1 5 2 101 ∷ sale 2 5 3 202 ∷ void 1 6 2 7 ∷ sale 2 5 0 9 ∷ sale 2 6 3 9 ∷ gone 2 5 3 9 ∷ [])
