@@ -252,6 +252,8 @@ tradingDebts =
     ∷ tradingIs (on 39 19 1000 ∷ threeDays) here 1111
     ∷ tradingIs (on 39 17 1000 ∷ threeIntraday) here 1111
     ∷ tradingIs (on 39 17 1000 ∷ on 35 19 20000 ∷ on 35 17 5 ∷ threeDays) here 21011
+    ∷ tradingIs (on 39 17 1000 ∷ on 35 19 20000 ∷ on 35 18 5 ∷ threeDays) here 21011
+    ∷ tradingIs (on 39 19 1000 ∷ on 35 17 20000 ∷ on 35 19 5 ∷ threeIntraday) here 21011
     ∷ tradingIs (on 39 19 1000 ∷ on 35 17 20000 ∷ on 35 20 5 ∷ threeIntraday) here 21011
     -- purchases − sales over both markets, day by day; a negative net owes nothing and lessens no other day
     ∷ tradingIs (on 39 17 70 ∷ []) here 70
@@ -297,7 +299,8 @@ tradingFigures =
     ∷ tradingFor 2 (beforeHoliday 3) 2
     ∷ tradingFor 3 (beforeHoliday 3) 3
     ∷ tradingFor 4 (beforeHoliday 3) 3
-    -- rounded once, over the sum of the days: (1 + 1) × 84 / 80 = 2.1
+    -- rounded once, over the whole product and the sum of the days: 1 × 21 × 3 / 80 = 0.79; (1 + 1) × 84 / 80 = 2.1
+    ∷ tradingFor 1 (withDefaults (beforeHoliday 3) 1) 1
     ∷ tradingIs (on 39 17 1 ∷ on 38 17 1 ∷ []) (withDefaults here 1) 3
     ∷ tradingIs [] (withDefaults here 30) 0
     ∷ []
@@ -343,6 +346,7 @@ imbalances =
     ∷ eqb (oneMonth 1 1 (minus 100001)) 2
     ∷ eqb (oneMonth 1 1 (minus 150000)) 2
     ∷ eqb (oneMonth 0 1000 (minus 10)) 0
+    ∷ eqb (oneMonth 100 0 (minus 10)) 0
     ∷ eqb (oneMonth 500 1000 (minus 10)) 50
     ∷ eqb (oneMonth 500 1000000 (minus 14900000000)) 74500000000000
     ∷ []

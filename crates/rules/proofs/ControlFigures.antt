@@ -2,14 +2,15 @@
 -- Every book has R 200 and TM 100, so that a party is detected if its day-ahead sales are above 100 and above twice its cover.
 -- Books are written as words by 01, 'The words', and so are the books that a control leaves: no definition writes them.
 -- Day 5 is controlled; days 0 to 30 are January 2000, day 31 is the first of February, day 371 is 2001-01-06.
-use mathlib.Core.Bool.{Bool, true, false, _&&_}
+use mathlib.Core.Bool.{Bool, true, false, not, _&&_}
 use mathlib.Core.List.{List, [], _∷_, _++_}
 use mathlib.Core.Path.{_≡_, refl}
 use Prim.Native.Nat.{ℕ, _+_, _*_}
 use lib.Dec.{eqb}
 use lib.ListN.{length, replicate, set}
 use Rattle.numbers.specs.Tests.{every}
-use Rattle.rules.specs.Entry.{keyOf}
+use Rattle.rules.specs.Entry.{keyOf, recordOf}
+use Rattle.rules.specs.Control.{detectedIn}
 use Rattle.rules.specs.Calls.{controlAnswer}
 use Rattle.rules.specs.declared.Controlled.{Controlled}
 use Rattle.rules.proofs.Worked.{postCause, withdrawCause, controlWords, sameNumbers, computed}
@@ -93,6 +94,10 @@ firstPasses =
     ((0x10000001 ∷ 0x20000005 ∷ 0x30000206 ∷ 0x4B9ACA00 ∷ 0x50000003 ∷ []) ∷ [])
     ((0x10000001 ∷ 0x20000005 ∷ 0x32000206 ∷ 0x4B9ACA00 ∷ 0x50000003 ∷ []) ∷ [])
     1
+    -- parties are 1 to 999: no other number is detected, whatever records there were
+    ∷ detectedIn 200 100 5 (recordOf (keyOf 999 5 1 0) 0 101 ∷ []) 999
+    ∷ not (detectedIn 200 100 5 (recordOf (keyOf 1000 5 1 0) 0 101 ∷ []) 1000)
+    ∷ not (detectedIn 200 100 5 (recordOf (keyOf 0 5 1 0) 0 101 ∷ []) 0)
     -- a day without entries; a book without entries
     ∷ leaves (sale 1 6 2 101 ∷ []) (sale 1 6 2 101 ∷ []) 0
     ∷ leaves [] [] 0
@@ -144,6 +149,11 @@ secondPasses =
     (sale 1 5 2 101 ∷ sale 2 5 3 202 ∷ void 1 6 2 7 ∷ entry 2 5 12 0 0 101 ∷ [])
     (void 1 5 2 101 ∷ sale 2 5 3 202 ∷ void 1 6 2 7 ∷ entry 2 5 12 0 0 101 ∷ [])
     1
+    -- a buyer detected in both passes, by a day-ahead sale of 203: its bilateral sale is cancelled, and counted, once
+    ∷ leaves
+    (sale 1 5 2 101 ∷ entry 2 5 1 0 0 203 ∷ void 1 6 2 7 ∷ sale 2 5 3 9 ∷ [])
+    (void 1 5 2 101 ∷ entry 2 5 1 0 0 203 ∷ void 1 6 2 7 ∷ void 2 5 3 9 ∷ [])
+    2
     -- likewise: the buyer's export, other day and withdrawn sale stay
     ∷ leaves
     (sale 1 5 2 101 ∷ sale 2 5 3 202 ∷ void 1 6 2 7 ∷ sale 2 5 0 9 ∷ sale 2 6 3 9 ∷ gone 2 5 3 9 ∷ [])

@@ -8,7 +8,7 @@ use Prim.Native.Nat.{ℕ, zero, suc, _+_, _*_}
 use lib.Dec.{eqb}
 use lib.ListN.{length, take, set}
 use Rattle.numbers.specs.Tests.{every}
-use Rattle.rules.specs.DayFile.{wordsOf, isShaped, isFile, fileNames}
+use Rattle.rules.specs.DayFile.{wordsOf, isShaped, isFile, items, fileNames}
 use Rattle.rules.specs.Calls.{fileAnswer}
 use Rattle.rules.specs.declared.FileRead.{FileRead}
 use Rattle.rules.proofs.Worked.{fileWords, bytes, sameNumbers, computed}
@@ -92,6 +92,7 @@ fileShapes =
     ∷ refused 2 (oneLine 0x30000001 0x40000007 0x10000000)
     ∷ refused 2 (oneLine 0x30000001 0x40000007 0xD0000000)
     -- status and spare bits of kind 3, bits 24 to 27
+    ∷ refused 2 (oneLine 0x31000000 0x40000007 0x50000000)
     ∷ refused 2 (oneLine 0x31000001 0x40000007 0x50000000)
     ∷ refused 2 (oneLine 0x32000206 0x40000007 0x50000000)
     ∷ refused 2 (oneLine 0x34000001 0x40000007 0x50000000)
@@ -309,6 +310,9 @@ namesInFile =
     ∷ not (fileNames threeBlocks 4 5)
     ∷ not (fileNames threeBlocks 5 5)
     ∷ not (fileNames threeBlocks 5 1)
+    -- what it holds: three lines, a block without lines, a line
+    ∷ eqb (length (items threeBlocks)) 5
+    ∷ eqb (length (items [])) 0
     ∷ not (fileNames [] 1 5)
     ∷ not (fileNames [] 0 0)
     ∷ []
