@@ -8,8 +8,9 @@ fn report_on(argument: usize, buffer: &mut [u8], out: &mut [u8]) {
     io::write_all(STDOUT_FILENO, &path[..size]);
     io::write_all(STDOUT_FILENO, b"\n");
     let file = os::open_read(&path[..size]);
-    let count = report::input::report_from(file, buffer, out);
+    let output = report::input::report_from(file, buffer, out);
     libc::close(file);
+    let count = output.count;
     io::write_all(STDOUT_FILENO, &out[..count]);
 }
 

@@ -1,10 +1,11 @@
 -- The report on a day file: a header and a line for each party and day named, or a refusal (01, 'Day file').
-use mathlib.Core.Bool.{cond}
+use mathlib.Core.Bool.{Bool, cond}
 use mathlib.Core.List.{List, [], _∷_, _++_}
 use Prim.Native.Nat.{ℕ, zero, suc, _+_}
 use lib.IntN.{ℤ}
 use lib.ListN.{replicate}
 use Rattle.numbers.specs.Causes.{ifDone}
+use Rattle.rules.specs.Refusals.{badFile}
 use Rattle.rules.specs.Book.{openWords, defaultCoefficient, defaultTolerance}
 use Rattle.rules.specs.Balance.{balanceAnswer, dayAhead, delivery}
 use Rattle.rules.specs.DayFile.{fileCause, fileWords, fileNames}
@@ -49,3 +50,7 @@ bookWords = 15363
 
 unfoldable pub reportOn : List ℕ → List ℕ
 reportOn bs = reportInto (openWords (replicate bookWords 0) defaultCoefficient defaultTolerance) bs
+
+-- what is printed for the bytes read: their report, or a refusal by 2 where a read failed
+unfoldable pub printed : Bool → List ℕ → List ℕ
+printed failed bs = cond failed (refusal badFile) (reportOn bs)

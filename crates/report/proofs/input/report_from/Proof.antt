@@ -1,6 +1,8 @@
 -- `report::input::report_from` meets its contract. Assumes nothing.
 use mathlib.Core.Path.{sym}
+use Prim.Native.Nat.{zero-le}
 use lib.Seq.{length-take-le}
+use Rattle.report.specs.Report.{printed}
 use Rattle.report.proofs.ReportLaws.{wrote-counts}
 use borrow.Author.Needs.{needs}
 use Rattle.report.proofs.input.report_from.Statement.{statement}
@@ -19,7 +21,8 @@ same-length-2 : tie.Need-same-length-2
 same-length-2 c = search needs
 
 returns : tie.Need-returns
-returns c = wrote-counts (c .before .before .refused .ensures)
+unfolding printed
+returns c = let w = c .before .before .refused .ensures in (zero-le, (w, wrote-counts w))
 
 slice-reshare-prefix-report : tie.Need-slice-reshare-prefix-report
 slice-reshare-prefix-report c = search needs
@@ -37,7 +40,11 @@ same-length-4 : tie.Need-same-length-4
 same-length-4 c = search needs
 
 returns-2 : tie.Need-returns-2
-returns-2 c = wrote-counts (c .before .before .report .ensures)
+unfolding printed
+returns-2 c =
+    let k = c .before .before in
+    let w = k .report .ensures in
+    (k .before .before .before .before .before .before .read-whole .ensures, (w, wrote-counts w))
 
 pub report-from-spec : {M : Type 1} → statement M
 report-from-spec =
