@@ -19,7 +19,7 @@ fn print(text: &[u8]) {
 fn main() {
     // One byte more than a file may have, so that a longer one is seen.
     let mut buffer = [0u8; 65537];
-    let mut out = [0u8; 655360];
+    let mut out = [0u8; report::MOST_TEXT];
     let output = report::input::report_from(STDIN_FILENO, &mut buffer, &mut out);
     say_read(output.failed);
     let count = output.count;

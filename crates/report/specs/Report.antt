@@ -51,6 +51,10 @@ bookWords = 15363
 unfoldable pub reportOn : List ℕ → List ℕ
 reportOn bs = reportInto (openWords (replicate bookWords 0) defaultCoefficient defaultTolerance) bs
 
+-- no report is longer: a header of 25 bytes, and a line of at most 54 for each eight bytes of a file
+abbrev pub mostText : ℕ
+mostText = 442393
+
 -- what is printed for the bytes read: their report, or a refusal by 2 where a read failed
 unfoldable pub printed : Bool → List ℕ → List ℕ
 printed failed bs = cond failed (refusal badFile) (reportOn bs)

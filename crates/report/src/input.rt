@@ -2,7 +2,7 @@
 ghost use Prim.Native.Nat.{_+_, _≤_};
 ghost use lib.ListN.{length, take};
 ghost use Rattle.io.specs.Counts.{Counts};
-ghost use Rattle.text.specs.Text.{Wrote};
+ghost use Rattle.text.specs.Text.{Whole};
 ghost use Rattle.report.specs.Report.{printed};
 
 // How many bytes came, or that a read failed.
@@ -61,10 +61,10 @@ pub struct Output {
     pub count: usize,
 }
 
-// The report on what a descriptor holds; a read that fails is refused by 2.
-pub fn report_from(fd: i32, buffer: &mut [u8], out: &mut [u8]) -> Output
+// The whole report on what a descriptor holds; a read that fails is refused by 2.
+pub fn report_from(fd: i32, buffer: &mut [u8], out: &mut [u8; crate::MOST_TEXT]) -> Output
     ensures { λ r. ⌜ r .read ≤ length (now (buffer .exit)) ⌝ }
-    ensures { λ r. ⌜ Wrote (now (out .entry)) 0 (printed (r .failed) (take (r .read) (now (buffer .exit)))) (r .count) (now (out .exit)) ⌝ }
+    ensures { λ r. ⌜ Whole (now (out .entry)) (printed (r .failed) (take (r .read) (now (buffer .exit)))) (r .count) (now (out .exit)) ⌝ }
     ensures { λ r. ⌜ Counts (r .count) (now (out .exit)) ⌝ }
 {
     let input = read_whole(fd, buffer);
