@@ -1,10 +1,11 @@
 -- The report on a day file: a header and a line for each party and day named, or a refusal (01, 'Day file').
-use mathlib.Core.Bool.{cond}
+use mathlib.Core.Bool.{Bool, cond}
 use mathlib.Core.List.{List, [], _∷_, _++_}
 use Prim.Native.Nat.{ℕ, zero, suc, _+_}
 use lib.IntN.{ℤ}
 use lib.ListN.{replicate}
 use Rattle.numbers.specs.Causes.{ifDone}
+use Rattle.rules.specs.Refusals.{badFile}
 use Rattle.rules.specs.Book.{openWords, defaultCoefficient, defaultTolerance}
 use Rattle.rules.specs.Balance.{balanceAnswer, dayAhead, delivery}
 use Rattle.rules.specs.DayFile.{fileNames}
@@ -50,3 +51,11 @@ bookWords = 15363
 
 unfoldable pub reportOn : List ℕ → List ℕ
 reportOn bs = reportInto (openWords (replicate bookWords 0) defaultCoefficient defaultTolerance) bs
+
+-- no report is longer: a header of 25 bytes, and a line of at most 54 for each eight bytes of a file
+abbrev pub mostText : ℕ
+mostText = 442393
+
+-- what is printed for the bytes read: their report, or a refusal by 2 where a read failed
+unfoldable pub printed : Bool → List ℕ → List ℕ
+printed failed bs = cond failed (refusal badFile) (reportOn bs)

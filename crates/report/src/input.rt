@@ -1,7 +1,9 @@
 // A file read to its end and reported on. No contract can say what is read: the work is `report`, on slices.
 ghost use Prim.Native.Nat.{_+_, _≤_};
-ghost use lib.ListN.{length};
+ghost use lib.ListN.{length, take};
 ghost use Rattle.io.specs.Counts.{Counts};
+ghost use Rattle.text.specs.Text.{Whole};
+ghost use Rattle.report.specs.Report.{printed};
 
 // How many bytes came, or that a read failed.
 pub struct Input {
@@ -52,14 +54,33 @@ pub fn read_whole(fd: i32, buffer: &mut [u8]) -> Input
     }
 }
 
-// The report on what a descriptor holds; a read that fails is refused by 2.
-pub fn report_from(fd: i32, buffer: &mut [u8], out: &mut [u8]) -> usize
-    ensures { λ r. ⌜ Counts r (now (out .exit)) ⌝ }
+// Whether a read failed, how many bytes the report is on, and how many it has itself.
+pub struct Output {
+    pub failed: bool,
+    pub read: usize,
+    pub count: usize,
+}
+
+// The whole report on what a descriptor holds; a read that fails is refused by 2.
+pub fn report_from(fd: i32, buffer: &mut [u8], out: &mut [u8; crate::MOST_TEXT]) -> Output
+    ensures { λ r. ⌜ r .read ≤ length (now (buffer .exit)) ⌝ }
+    ensures { λ r. ⌜ Whole (now (out .entry)) (printed (r .failed) (take (r .read) (now (buffer .exit)))) (r .count) (now (out .exit)) ⌝ }
+    ensures { λ r. ⌜ Counts (r .count) (now (out .exit)) ⌝ }
 {
     let input = read_whole(fd, buffer);
     if input.failed {
-        return crate::refused(dayfile::BAD_FILE, out);
+        let count = crate::refused(dayfile::BAD_FILE, out);
+        return Output {
+            failed: true,
+            read: 0,
+            count,
+        };
     }
-    let count = input.count;
-    crate::report(&buffer[..count], out)
+    let read = input.count;
+    let count = crate::report(&buffer[..read], out);
+    Output {
+        failed: false,
+        read,
+        count,
+    }
 }

@@ -7,12 +7,15 @@ ghost use lib.ListN.{length, getD};
 ghost use Rattle.rules.specs.Words.{isBook};
 ghost use Rattle.rules.specs.Book.{openWords, defaultCoefficient, defaultTolerance};
 ghost use Rattle.names.specs.Names.{namesParty};
-ghost use Rattle.text.specs.Text.{Wrote};
+ghost use Rattle.text.specs.Text.{Wrote, Whole};
 ghost use Rattle.report.specs.Asked.{Asked};
-ghost use Rattle.report.specs.Report.{header, refusal, lineText, lineOf, eachFrom, partyLines, allLines, reportInto, reportOn};
+ghost use Rattle.report.specs.Report.{header, refusal, lineText, lineOf, eachFrom, partyLines, allLines, reportInto, reportOn, mostText};
 use position::parts;
 
 pub mod input;
+
+// No report is longer.
+pub const MOST_TEXT: usize = 442393;
 
 fn put_line(out: &mut [u8], at: usize, party: u32, day: u32, ahead: i64, due: i64) -> usize
     requires { ⌜ at ≤ length (now out) ⌝ }
@@ -159,9 +162,10 @@ fn report_into(book: &mut [u32], file: &[u8], out: &mut [u8]) -> usize
     put_table(book, file, out)
 }
 
-// The report on a day file, as much of it as fits.
+// The report on a day file, as much of it as fits: all of it in MOST_TEXT bytes.
 pub fn report(file: &[u8], out: &mut [u8]) -> usize
     ensures { λ r. ⌜ Wrote (now (out .entry)) 0 (reportOn (now (file .entry))) r (now (out .exit)) ⌝ }
+    ensures { λ r. ⌜ (mostText ≤ length (now (out .entry)) → Whole (now (out .entry)) (reportOn (now (file .entry))) r (now (out .exit))) ⌝ }
 {
     let mut book = [0u32; 15363];
     report_into(&mut book, file, out)

@@ -3,17 +3,17 @@ use mathlib.Core.Path.{_≡_, refl, sym, _∙_, ap}
 use mathlib.Core.Bool.{Bool, true, false, cond, true≢false}
 use mathlib.Core.List.{List, [], _∷_, _++_}
 use mathlib.Core.Logic.{inl, inr}
-use Prim.Native.Nat.{ℕ, zero, suc, _+_, _-_, _*_, _/_, _%_, _^_, min, _≤_, _<_}
+use Prim.Native.Nat.{ℕ, zero, suc, _+_, _-_, _*_, _/_, _%_, _^_, min, _≤_, _<_, zero-le}
 use native.Mathlib.Nat.{add-zero, pow-suc}
 use native.Mathlib.Numerals.{add-one}
 use native.Mathlib.Omega.{arith}
 use lib.IntN.{ℤ, pos, negsuc, natAbs}
 use lib.ListN.{length, getD, drop, set, length-append, length-set}
-use lib.Seq.{set-out, drop-cons}
+use lib.Seq.{set-out, drop-cons, take-at, drop-at}
 use borrow.Author.Tests.{ltb-true, lt-ltb, le-ltb}
 use Rattle.numbers.specs.Signed.{isNegative}
 use Rattle.numbers.proofs.TestLaws.{below-or-above}
-use Rattle.text.specs.Text.{digits, decimal, signed, over, Wrote}
+use Rattle.text.specs.Text.{digits, decimal, signed, over, Wrote, Whole}
 
 -- text after text
 pub over-append : (s t out : List ℕ) (at : ℕ) → over out at (s ++ t) ≡ over (over out at s) (at + length s) t
@@ -98,6 +98,9 @@ digits-step : (n x : ℕ) → 10 ≤ x → digits (suc n) x ≡ digits n (x / 10
 unfolding digits
 digits-step n x h = rw (le-ltb x 10 h)
 
+tenth : (y x : ℕ) → x < y * 10 → x / 10 < y
+tenth y x h = omega arith
+
 -- one digit more is not needed where all are there
 digits-enough : (n x : ℕ) → x < 10 ^ suc n → digits (suc n) x ≡ digits (suc (suc n)) x
 digits-enough zero x h = one-digit 0 x h ∙ sym (one-digit 1 x h)
@@ -109,9 +112,6 @@ digits-enough (suc n) x h =
           ∙ ap (λ ds. ds ++ ((48 + x % 10) ∷ [])) (digits-enough n (x / 10) (tenth (10 ^ suc n) x (rw pow-suc at h)))
           ∙ sym (digits-step (suc (suc n)) x l)
     ]
-  where
-    tenth : (y x : ℕ) → x < y * 10 → x / 10 < y
-    tenth y x h = omega arith
 
 pub decimal-step : (x : ℕ) → x < 18446744073709551616 → 10 ≤ x → decimal x ≡ decimal (x / 10) ++ ((48 + x % 10) ∷ [])
 unfolding decimal
@@ -143,3 +143,60 @@ signed-other (negsuc n) e = absurd (true≢false e)
 pub wrote-nothing : (out : List ℕ) (at : ℕ) → at ≤ length out → Wrote out at [] at out
 unfolding over
 wrote-nothing out at h = record { place = omega arith; bytes = refl }
+
+-- how long a number's text is: a number below a power of ten, any number, and any signed number
+few-digits : (n k x : ℕ) → x < 10 ^ suc k → length (digits n x) ≤ suc k
+unfolding digits
+few-digits zero k x h = zero-le
+few-digits (suc n) zero x h = rw (one-digit n x h) (omega arith)
+few-digits (suc n) (suc k) x h =
+    elim (below-or-above x 10) [
+      | inl l ↦ rw (one-digit n x l) (omega arith)
+      | inr l ↦ rw (digits-step n x l, length-append (digits n (x / 10)) _) (omega (arith, few-digits n k (x / 10) (tenth (10 ^ suc k) x (rw pow-suc at h))))
+    ]
+
+pub decimal-below : (k x : ℕ) → x < 10 ^ suc k → length (decimal x) ≤ suc k
+unfolding decimal
+decimal-below k x h = few-digits 20 k x h
+
+all-digits : (n x : ℕ) → length (digits n x) ≤ n
+unfolding digits
+all-digits zero x = zero-le
+all-digits (suc n) x =
+    elim (below-or-above x 10) [
+      | inl l ↦ rw (one-digit n x l) (omega arith)
+      | inr l ↦ rw (digits-step n x l, length-append (digits n (x / 10)) _) (omega (arith, all-digits n (x / 10)))
+    ]
+
+pub decimal-most : (x : ℕ) → length (decimal x) ≤ 20
+unfolding decimal
+decimal-most x = all-digits 20 x
+
+pub signed-most : (z : ℤ) → length (signed z) ≤ 21
+unfolding signed
+signed-most (pos n) = omega (arith, decimal-most n)
+signed-most (negsuc n) = omega (arith, decimal-most (suc n))
+
+-- a text that a slice has room for stands in it whole
+over-later : (s out : List ℕ) (at b : ℕ) → over (b ∷ out) (suc at) s ≡ b ∷ over out at s
+unfolding over
+over-later [] out at b = refl
+over-later (x ∷ s) out at b =
+    let e : suc at + 1 ≡ suc (at + 1) = omega arith in
+    rw e (over-later s (set out at x) (at + 1) b)
+
+over-start : (s out : List ℕ) → length s ≤ length out → over out 0 s ≡ s ++ drop (length s) out
+unfolding over
+over-start [] out h = refl
+over-start (b ∷ s) [] h = absurd (omega arith)
+over-start (b ∷ s) (x ∷ out) h = over-later s out 0 b ∙ ap (λ l. b ∷ l) (over-start s out (omega arith))
+
+pub wrote-whole : {out s : List ℕ} {next : ℕ} {left : List ℕ} → Wrote out 0 s next left → length s ≤ length out → Whole out s next left
+wrote-whole {out} {s} w h =
+    let all : min (0 + length s) (length out) ≡ length s = omega arith in
+    let e = w .place ∙ all in
+    record {
+      place = e;
+      bytes = rw (e, w .bytes, over-start s out h) (take-at s (drop (length s) out) (length s) refl);
+      past = rw (e, w .bytes, over-start s out h) (drop-at s (drop (length s) out) (length s) refl);
+    }

@@ -5,7 +5,7 @@ use mathlib.Core.List.{List, [], _∷_, _++_}
 use Prim.Native.Nat.{ℕ, zero, suc, _+_, _/_, _%_, min}
 use lib.Dec.{ltb}
 use lib.IntN.{ℤ, pos, negsuc}
-use lib.ListN.{length, set}
+use lib.ListN.{length, set, take, drop}
 
 -- the decimal digits of a number, at most so many
 unfoldable pub digits : ℕ → ℕ → List ℕ
@@ -30,3 +30,9 @@ over out at (b ∷ bs) = over (set out at b) (at + 1) bs
 pub record Wrote (out : List ℕ) (at : ℕ) (text : List ℕ) (next : ℕ) (left : List ℕ) : Type 0 where
   pub place : next ≡ min (at + length text) (length out)
   pub bytes : left ≡ over out at text
+
+-- a whole text written at the start of a slice; every byte past it is as it was
+pub record Whole (out text : List ℕ) (next : ℕ) (left : List ℕ) : Type 0 where
+  pub place : next ≡ length text
+  pub bytes : take next left ≡ text
+  pub past : drop next left ≡ drop next out

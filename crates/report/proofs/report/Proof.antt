@@ -1,5 +1,8 @@
 -- `report::report` meets its contract. Assumes nothing.
+use native.Mathlib.Nat.{le-trans}
+use Rattle.text.proofs.TextLaws.{wrote-whole}
 use Rattle.report.specs.Report.{reportOn}
+use Rattle.report.proofs.LengthLaws.{report-fits}
 use borrow.Author.Needs.{needs}
 use Rattle.report.proofs.report.Statement.{statement}
 use Rattle.report.proofs.report.Tie as tie
@@ -15,7 +18,9 @@ same-length c = search needs
 
 returns : tie.Need-returns
 unfolding reportOn
-returns c = c .before .before .before .report-into .ensures
+returns c =
+    let w = c .before .before .before .report-into .ensures in
+    (w, λ h. wrote-whole w (le-trans (report-fits _) h))
 
 pub report-spec : {M : Type 1} → statement M
 report-spec =

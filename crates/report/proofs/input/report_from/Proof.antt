@@ -1,6 +1,12 @@
 -- `report::input::report_from` meets its contract. Assumes nothing.
 use mathlib.Core.Path.{sym}
+use Prim.Native.Nat.{zero-le}
+use native.Mathlib.Nat.{le-trans}
+use native.Mathlib.Omega.{arith}
 use lib.Seq.{length-take-le}
+use Rattle.report.specs.Report.{printed}
+use Rattle.text.proofs.TextLaws.{wrote-whole}
+use Rattle.report.proofs.LengthLaws.{refusal-fits}
 use Rattle.report.proofs.ReportLaws.{wrote-counts}
 use borrow.Author.Needs.{needs}
 use Rattle.report.proofs.input.report_from.Statement.{statement}
@@ -15,11 +21,11 @@ refused-requires c κs = search needs
 same-length : tie.Need-same-length
 same-length c = search needs
 
-same-length-2 : tie.Need-same-length-2
-same-length-2 c = search needs
-
 returns : tie.Need-returns
-returns c = wrote-counts (c .before .before .refused .ensures)
+unfolding printed
+returns c =
+    let w = c .refused .ensures in
+    (zero-le, (wrote-whole w (le-trans (refusal-fits _) (omega arith)), wrote-counts w))
 
 slice-reshare-prefix-report : tie.Need-slice-reshare-prefix-report
 slice-reshare-prefix-report c = search needs
@@ -30,14 +36,14 @@ slice-aggregate-report c = sym (length-take-le _ _ (c .before .before .before .b
 report-requires : tie.Need-report-requires
 report-requires c κs = search needs
 
-same-length-3 : tie.Need-same-length-3
-same-length-3 c = search needs
-
-same-length-4 : tie.Need-same-length-4
-same-length-4 c = search needs
+same-length-2 : tie.Need-same-length-2
+same-length-2 c = search needs
 
 returns-2 : tie.Need-returns-2
-returns-2 c = wrote-counts (c .before .before .report .ensures)
+unfolding printed
+returns-2 c =
+    let w = c .report .ensures .1 (omega arith) in
+    (c .before .before .before .before .before .before .read-whole .ensures, (w, wrote-counts (c .report .ensures .0)))
 
 pub report-from-spec : {M : Type 1} → statement M
 report-from-spec =
@@ -46,11 +52,9 @@ report-from-spec =
     read-whole-requires
     refused-requires
     same-length
-    same-length-2
     returns
     slice-reshare-prefix-report
     slice-aggregate-report
     report-requires
-    same-length-3
-    same-length-4
+    same-length-2
     returns-2)
