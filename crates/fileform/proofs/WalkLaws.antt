@@ -14,7 +14,7 @@ use Rattle.numbers.proofs.TestLaws.{below-or-above}
 use Rattle.rules.specs.DayFile.{Item, line, emptyBlock, headItem, linesIn, isShaped, itemsFrom, wordsOf}
 use Rattle.fileform.specs.declared.Cursor.{Cursor}
 use Rattle.fileform.specs.declared.Line.{Line}
-use Rattle.fileform.specs.Read.{stepAt, wordIn}
+use Rattle.fileform.specs.Read.{foundAt, headFrom, lineFrom}
 use Rattle.coding.specs.Coding.{wordAt}
 use Rattle.fileform.specs.Walk.{isMore, headAt, pastStep, lineAt, lineItem, itemsAt, isStepOk, leftItems, leftShaped}
 
@@ -28,10 +28,18 @@ module _ (bs : List ℕ) (c : Cursor) (more : isMore bs c ≡ true) where
   unfolding isMore
   line-whole n = omega (arith, leb-true 12 (length bs - c .at) (rw (ne-eqb (c .left) 0 n) at more))
 
--- a reader finds each whole word
-pub word-found : (bs : List ℕ) (at : ℕ) → at + 4 ≤ length bs → wordIn (stepAt bs at) ≡ wordAt bs at
-unfolding stepAt
-word-found bs at h = rw (le-leb (at + 4) (length bs) h)
+-- a reader finds each whole word, and so a whole head and a whole line
+pub found-word : (bs : List ℕ) (at : ℕ) → at + 4 ≤ length bs → foundAt bs at ≡ record { whole = true; word = wordAt bs at; at = at + 4 }
+unfolding foundAt
+found-word bs at h = rw (le-leb (at + 4) (length bs) h)
+
+pub head-found : (bs : List ℕ) (at : ℕ) → at + 8 ≤ length bs → headFrom bs at ≡ record { any = true; whole = true; first = wordAt bs at; second = wordAt bs (at + 4); third = 0 }
+head-found bs at h = rw (found-word bs at (omega arith), found-word bs (at + 4) (omega arith))
+
+pub line-found : (bs : List ℕ) (at : ℕ) → at + 12 ≤ length bs → lineFrom bs at ≡ record { any = true; whole = true; first = wordAt bs at; second = wordAt bs (at + 4); third = wordAt bs (at + 8) }
+line-found bs at h =
+    let e : at + 8 ≡ at + 4 + 4 = omega arith in
+    rw (e, found-word bs at (omega arith), found-word bs (at + 4) (omega arith), found-word bs (at + 4 + 4) (omega arith))
 
 -- the words of bytes, one at a time
 four : (bs : List ℕ) (at : ℕ) → at + 4 ≤ length bs → drop at bs ≡ getD bs at 0 ∷ getD bs (at + 1) 0 ∷ getD bs (at + 2) 0 ∷ getD bs (at + 3) 0 ∷ drop (at + 4) bs

@@ -9,19 +9,8 @@ ghost use Rattle.fileform.specs.Walk.{start, isMore, headAt, pastStep, l
 use crate::Cursor;
 use crate::Line;
 use crate::reader;
-use crate::reader::Step;
+use crate::reader::Piece;
 use words::KIND;
-
-// The word at a byte, by way of a reader.
-pub fn word_at(file: &[u8], at: usize) -> u32
-    requires { ⌜ at + 4 ≤ length (now file) ⌝ }
-    ensures { λ r. ⌜ r ≡ wordAt (now (file .entry)) at ⌝ }
-{
-    match reader::step_from(file, at) {
-        Step::Word(word, _) => word,
-        Step::End => 0,
-    }
-}
 
 pub fn begin() -> Cursor
     ensures { λ r. ⌜ r ≡ start ⌝ }
@@ -49,13 +38,13 @@ pub fn head_at(file: &[u8], at: usize) -> Cursor
     requires { ⌜ at + 8 ≤ length (now file) ⌝ }
     ensures { λ r. ⌜ r ≡ headAt (now (file .entry)) at ⌝ }
 {
-    let first = word_at(file, at) % KIND;
-    let second = word_at(file, at + 4) % KIND;
+    let head = reader::piece_from(file, at, false);
+    let first = head.first % KIND;
     Cursor {
         at: at + 8,
         left: first / 65536,
         party: first % 65536,
-        day: second,
+        day: head.second % KIND,
     }
 }
 
@@ -64,9 +53,10 @@ pub fn line_at(file: &[u8], at: usize) -> Line
     requires { ⌜ at + 12 ≤ length (now file) ⌝ }
     ensures { λ r. ⌜ r ≡ lineAt (now (file .entry)) at ⌝ }
 {
-    let named = word_at(file, at) % KIND;
-    let low = word_at(file, at + 4) % KIND;
-    let high = word_at(file, at + 8) % KIND;
+    let line = reader::piece_from(file, at, true);
+    let named = line.first % KIND;
+    let low = line.second % KIND;
+    let high = line.third % KIND;
     Line {
         entry_type: named % 256,
         counterparty: named / 256,
@@ -91,25 +81,20 @@ pub fn advance(file: &[u8], c: Cursor) -> Cursor
     }
 }
 
-fn head_ok(file: &[u8], at: usize) -> bool
-    requires { ⌜ at + 8 ≤ length (now file) ⌝ }
-    ensures { λ r. ⌜ r ≡ isHead (wordAt (now (file .entry)) at) (wordAt (now (file .entry)) (at + 4)) ⌝ }
+fn head_ok(head: Piece) -> bool
+    ensures { λ r. ⌜ r ≡ isHead (head .first) (head .second) ⌝ }
 {
-    let first = word_at(file, at);
-    let second = word_at(file, at + 4);
-    (first / KIND == 1) & (second / KIND == 2)
+    (head.first / KIND == 1) & (head.second / KIND == 2)
 }
 
-fn line_ok(file: &[u8], at: usize) -> bool
-    requires { ⌜ at + 12 ≤ length (now file) ⌝ }
-    ensures { λ r. ⌜ r ≡ isLine (wordAt (now (file .entry)) at) (wordAt (now (file .entry)) (at + 4)) (wordAt (now (file .entry)) (at + 8)) ⌝ }
+fn line_ok(line: Piece) -> bool
+    ensures { λ r. ⌜ r ≡ isLine (line .first) (line .second) (line .third) ⌝ }
 {
-    let named = word_at(file, at);
-    let low = word_at(file, at + 4);
-    let high = word_at(file, at + 8);
+    let named = line.first;
+    let high = line.third;
     (named / KIND == 3)
         & (named % KIND < 16777216)
-        & (low / KIND == 4)
+        & (line.second / KIND == 4)
         & (high / KIND == 5)
         & (high % KIND < 4096)
 }
@@ -121,9 +106,9 @@ pub fn step_ok(file: &[u8], c: Cursor) -> bool
 {
     let at = c.at;
     if c.left == 0 {
-        return head_ok(file, at);
+        return head_ok(reader::piece_from(file, at, false));
     }
-    line_ok(file, at)
+    line_ok(reader::piece_from(file, at, true))
 }
 
 // Whether the bytes are whole blocks: one head or line after the other.

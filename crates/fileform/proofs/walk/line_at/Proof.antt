@@ -1,23 +1,13 @@
 -- `fileform::walk::line_at` meets its contract. Assumes nothing.
-use Rattle.fileform.specs.Walk.{lineAt}
+use mathlib.Core.Path.{_∙_}
 use borrow.Author.Needs.{needs}
+use Rattle.fileform.specs.Walk.{lineAt}
+use Rattle.fileform.proofs.WalkLaws.{line-found}
 use Rattle.fileform.proofs.walk.line_at.Statement.{statement}
 use Rattle.fileform.proofs.walk.line_at.Tie as tie
 
-word-at-requires : tie.Need-word-at-requires
-word-at-requires c κs = search needs
-
-add-word-at : tie.Need-add-word-at
-add-word-at c = search needs
-
-word-at-requires-2 : tie.Need-word-at-requires-2
-word-at-requires-2 c κs = search needs
-
-add-word-at-2 : tie.Need-add-word-at-2
-add-word-at-2 c = search needs
-
-word-at-requires-3 : tie.Need-word-at-requires-3
-word-at-requires-3 c κs = search needs
+piece-from-requires : tie.Need-piece-from-requires
+piece-from-requires c κs = search needs
 
 cast-t9 : tie.Need-cast-t9
 cast-t9 c = search needs
@@ -33,19 +23,7 @@ add-t12 c = search needs
 
 returns : tie.Need-returns
 unfolding lineAt
-returns c = rw (c .before .before .word-at .ensures, c .before .word-at2 .ensures, c .word-at3 .ensures)
+returns c = rw (c .before .before .before .piece-from .ensures ∙ line-found _ _ (c .before .before .before .before .before .pre))
 
 pub line-at-spec : {M : Type 1} → statement M
-line-at-spec =
-    tie.close
-    (tie.spec
-    word-at-requires
-    add-word-at
-    word-at-requires-2
-    add-word-at-2
-    word-at-requires-3
-    cast-t9
-    cast-t10
-    mul-t11
-    add-t12
-    returns)
+line-at-spec = tie.close (tie.spec piece-from-requires cast-t9 cast-t10 mul-t11 add-t12 returns)
