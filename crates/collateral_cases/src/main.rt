@@ -1,119 +1,105 @@
-// Collateral against figures worked out by hand from document 01, 'Collateral'.
-mod causes;
-mod entries;
-mod margins;
-mod months;
-mod ranges;
-mod score;
-mod totals;
-mod trading;
-mod yek;
+// Collateral against the list on standard input, whose figures are worked out by hand from document 01, 'Collateral'.
+mod figures;
 
-use score::Score;
+use caselist::rows::Row;
+use caselist::score::Score;
+use caselist::score::told;
+use figures::with;
+use rules::Case;
+use rules::Collateral;
+
+// Each item and the total.
+fn has_items(got: Collateral, r: Row) -> bool {
+    (got.answer == 0)
+        & (got.margin == r.a)
+        & (got.trading == r.b)
+        & (got.imbalance == r.c)
+        & (got.risk == r.d)
+        & (got.yek == r.e)
+        & (got.total == r.f)
+}
+
+// The cause, and no other figure.
+fn has_cause(got: Collateral, r: Row) -> bool {
+    (got.answer as u64 == r.a)
+        & (got.margin == 0)
+        & (got.trading == 0)
+        & (got.imbalance == 0)
+        & (got.risk == 0)
+        & (got.yek == 0)
+        & (got.total == 0)
+}
+
+fn two(case: Case, a: u64, b: u64, c: u64, d: u64) -> Case {
+    with(with(case, a, b), c, d)
+}
+
+fn done(book: &[u32], r: Row, case: Case) -> bool {
+    let asked = two(two(case, r.g, r.h, r.i, r.j), r.k, r.l, r.m, r.n);
+    has_items(collateral::collateral(book, asked), r)
+}
+
+fn refused(book: &[u32], r: Row, case: Case) -> bool {
+    let asked = with(two(case, r.b, r.c, r.d, r.e), r.f, r.g);
+    has_cause(collateral::collateral(book, asked), r)
+}
+
+// The case of the rows that follow: a plain supplier's with these figures, or with a month answer more.
+fn of_case(r: Row, case: Case) -> Case {
+    if r.call == b'C' {
+        let first = two(figures::plain(), r.a, r.b, r.c, r.d);
+        let second = two(first, r.e, r.f, r.g, r.h);
+        return with(two(second, r.i, r.j, r.k, r.l), r.m, r.n);
+    }
+    if r.call == b'A' {
+        return figures::with_month(case, r.a, r.b, r.c, r.d);
+    }
+    case
+}
+
+// What a row asks, or a step that makes the book.
+fn step(book: &mut [u32], r: Row, case: Case) -> bool {
+    if r.call == b'D' {
+        return done(book, r, case);
+    }
+    if r.call == b'R' {
+        return refused(book, r, case);
+    }
+    caselist::steps::make(book, r)
+}
+
+fn lend(book: &mut [u32], r: Row, case: Case, n: usize) -> bool {
+    if book.len() < n {
+        return false;
+    }
+    step(&mut book[..n], r, case)
+}
+
+fn line(book: &mut [u32], r: Row, case: Case, s: Score) -> Score {
+    if caselist::score::is_setting(r) {
+        return caselist::score::set(s, r);
+    }
+    if (r.call == b'C') | (r.call == b'A') {
+        return s;
+    }
+    told(s, r.line, lend(book, r, case, s.lent))
+}
+
+fn run(table: &[u64], rows: usize, book: &mut [u32]) {
+    let mut case = figures::plain();
+    let mut s = caselist::score::none();
+    let mut i = 0;
+    while i < rows {
+        let r = caselist::rows::row_at(table, i);
+        case = of_case(r, case);
+        s = line(book, r, case, s);
+        i += 1;
+    }
+}
 
 fn main() {
-    let mut words = [0u32; 15363];
-    let book: &mut [u32] = &mut words;
-    book::open(book, 110, 600000);
-    refusals(book);
-    figures(book);
-    margin(book);
-    group(book);
-    held(book);
-    scores(book);
-    trade(book);
-    roundings(book);
-    markets(book);
-    together(book);
-}
-
-fn refusals(book: &[u32]) {
-    let mut s = causes::no_book(book, score::none());
-    s = causes::parties(book, s);
-    s = causes::days(book, s);
-    s = causes::in_order(book, s);
-    print(b"causes: ", s);
-}
-
-fn figures(book: &[u32]) {
-    let mut s = ranges::yes_or_no(book, score::none());
-    s = ranges::days(book, s);
-    s = ranges::group(book, s);
-    s = ranges::not_responsible(book, s);
-    s = ranges::scores(book, s);
-    s = ranges::amounts(book, s);
-    print(b"ranges: ", s);
-}
-
-fn margin(book: &[u32]) {
-    let mut s = margins::starred(book, score::none());
-    s = margins::generation(book, s);
-    s = margins::others(book, s);
-    s = margins::ranges(book, s);
-    print(b"margin: ", s);
-}
-
-fn group(book: &[u32]) {
-    let mut s = months::starred(book, score::none());
-    s = months::signs(book, s);
-    s = months::edges(book, s);
-    s = months::used(book, s);
-    s = months::surpluses(book, s);
-    s = months::groups(book, s);
-    s = months::risks(book, s);
-    print(b"imbalance and risk: ", s);
-}
-
-fn held(book: &[u32]) {
-    let mut s = months::places(book, score::none());
-    s = months::ranges(book, s);
-    s = months::not_responsible(book, s);
-    print(b"month answers: ", s);
-}
-
-fn scores(book: &[u32]) {
-    let mut s = yek::starred(book, score::none());
-    s = yek::shares(book, s);
-    s = yek::roundings(book, s);
-    s = yek::large(book, s);
-    print(b"YEK: ", s);
-}
-
-fn trade(book: &mut [u32]) {
-    let mut s = trading::starred(book, score::none());
-    s = trading::window(book, s);
-    s = trading::window_late(book, s);
-    s = trading::nonbusiness(book, s);
-    print(b"trading: ", s);
-}
-
-fn roundings(book: &mut [u32]) {
-    let mut s = trading::default_days(book, score::none());
-    s = trading::quarters(book, s);
-    s = trading::beside_margin(book, s);
-    print(b"default days and quarters: ", s);
-}
-
-fn markets(book: &mut [u32]) {
-    let mut s = trading::zeros(book, score::none());
-    s = trading::level_days(book, s);
-    s = trading::intraday_alone(book, s);
-    s = trading::ahead_alone(book, s);
-    s = trading::others(book, s);
-    print(b"days chosen: ", s);
-}
-
-fn together(book: &mut [u32]) {
-    let mut s = totals::every_item(book, score::none());
-    s = totals::generator(book, s);
-    s = totals::largest(book, s);
-    print(b"total: ", s);
-}
-
-fn print(name: &[u8], s: Score) {
-    io::write_all(1, name);
-    io::print_decimal(1, s.checks as u64);
-    io::write_all(1, b" checks, ");
-    io::print_decimal(1, s.wrong as u64);
-    io::write_all(1, b" wrong\n");
+    let mut table = [0u64; 16000];
+    let rows = caselist::rows::read(&mut table);
+    let mut book = [0u32; 15363];
+    run(&table, rows, &mut book);
 }
