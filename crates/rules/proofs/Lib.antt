@@ -2,6 +2,7 @@
 pub mod WordLaws
 pub mod BookLaws
 pub mod SumOrder
+pub mod SumPlaces
 pub mod CollateralOrder
 pub mod Limits
 pub mod Machine
