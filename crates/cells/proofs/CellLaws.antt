@@ -1,6 +1,6 @@
 -- What the cells of a table hold after entries: each is the sum of the amounts that go to it. Assumes nothing.
 use mathlib.Core.Path.{_≡_, refl, sym, ap, ap₂, _∙_}
-use mathlib.Core.Logic.{inl, inr}
+use mathlib.Core.Logic.{_⊎_, inl, inr}
 use mathlib.Core.Bool.{Bool, true, false, not, cond, _&&_, true≢false}
 use mathlib.Core.List.{List, [], _∷_, _++_}
 use Prim.Native.Nat.{ℕ, _+_, _*_, _≤_, _<_, zero-le}
@@ -9,14 +9,14 @@ use native.Mathlib.Omega.{arith}
 use lib.Dec.{eqb}
 use lib.ListN.{length, getD, length-set, length-replicate, List·getD-eq-default}
 use lib.Seq.{getD-set-same, getD-set-other, ext-getD}
-use borrow.Author.Tests.{eqb-true, eqb-false, not-true}
+use borrow.Author.Tests.{eqb-true, eqb-false, eq-eqb, not-true}
 use Rattle.numbers.specs.Sums.{total}
 use Rattle.numbers.specs.Tests.{any, all}
-use Rattle.numbers.proofs.TestLaws.{bool-cases, below-or-above, and-split}
+use Rattle.numbers.proofs.TestLaws.{bool-cases, below-or-above, and-split, or-cases, or-left, or-right}
 use Rattle.numbers.proofs.ListLaws.{getD-blank}
 use Rattle.numbers.proofs.SumLaws.{cond-limit, total-append, total-cong, total-bound-where}
 use Rattle.rules.specs.Entry.{Label, Record, legal}
-use Rattle.cells.specs.Cells.{Cells, addTo, addToEach, added, over, blank, filled, goesTo, inCell, apart, Limited}
+use Rattle.cells.specs.Cells.{Cells, oneIf, addTo, addToEach, added, over, blank, filled, goesTo, inCell, apart, Limited}
 use Rattle.cells.specs.Reordered.{Reordered, none, keep, exchange, further}
 
 -- two tests, each of which implies the other
@@ -26,6 +26,35 @@ same-test {a} {b} f g =
       | inl e ↦ e ∙ sym (f e)
       | inr e ↦ e ∙ sym (elim (bool-cases b) [ inl k ↦ absurd (true≢false (sym (g k) ∙ e)) | inr k ↦ k ])
     ]
+
+-- a cell among several
+pub to-first : (j i : ℕ) (is : List ℕ) → i ≡ j → any (eqb j) (i ∷ is) ≡ true
+unfolding any
+to-first j i is e = or-left (eqb j i) _ (eq-eqb j i (sym e))
+
+pub to-later : (j i : ℕ) (is : List ℕ) → any (eqb j) is ≡ true → any (eqb j) (i ∷ is) ≡ true
+unfolding any
+to-later j i is e = or-right (eqb j i) _ e
+
+pub to-either : (j i : ℕ) (is : List ℕ) → any (eqb j) (i ∷ is) ≡ true → (i ≡ j) ⊎ (any (eqb j) is ≡ true)
+unfolding any
+to-either j i is e = elim (or-cases (eqb j i) _ e) [ inl q ↦ inl (sym (eqb-true j i q)) | inr q ↦ inr q ]
+
+pub to-none : (j : ℕ) → any (eqb j) [] ≡ true → ⊥
+unfolding any
+to-none j e = true≢false (sym e)
+
+pub goes-one : (b : Bool) (j i : ℕ) → any (eqb j) (oneIf b i) ≡ true → (b ≡ true) × (i ≡ j)
+goes-one true j i e = elim (to-either j i [] e) [ inl q ↦ (refl, q) | inr q ↦ absurd (to-none j q) ]
+goes-one false j i e = absurd (to-none j e)
+
+pub one-goes : (b : Bool) (j i : ℕ) → b ≡ true → i ≡ j → any (eqb j) (oneIf b i) ≡ true
+one-goes b j i e q = rw e (to-first j i [] q)
+
+pub one-apart : (b : Bool) (i : ℕ) → apart (oneIf b i) ≡ true
+unfolding apart any
+one-apart true i = refl
+one-apart false i = refl
 
 -- one cell
 pub length-add : (table : List ℕ) (i a : ℕ) → length (addTo table i a) ≡ length table

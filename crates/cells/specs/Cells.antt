@@ -14,6 +14,10 @@ use Rattle.rules.specs.declared.EntryRead.{EntryRead}
 abbrev pub Cells : Type 0
 Cells = Label → List ℕ
 
+-- one cell where a test holds, else none
+abbrev pub oneIf : Bool → ℕ → List ℕ
+oneIf b i = cond b (i ∷ []) []
+
 -- an amount more in a cell, and in each of several
 abbrev pub addTo : List ℕ → ℕ → ℕ → List ℕ
 addTo table i a = set table i (getD table i 0 + a)
