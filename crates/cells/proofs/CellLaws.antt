@@ -20,7 +20,7 @@ use Rattle.cells.specs.Cells.{Cells, oneIf, addTo, addToEach, added, ove
 use Rattle.cells.specs.Reordered.{Reordered, none, keep, exchange, further}
 
 -- two tests, each of which implies the other
-same-test : {a b : Bool} → (a ≡ true → b ≡ true) → (b ≡ true → a ≡ true) → a ≡ b
+pub same-test : {a b : Bool} → (a ≡ true → b ≡ true) → (b ≡ true → a ≡ true) → a ≡ b
 same-test {a} {b} f g =
     elim (bool-cases a) [
       | inl e ↦ e ∙ sym (f e)

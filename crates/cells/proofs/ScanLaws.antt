@@ -49,6 +49,10 @@ sound-to (suc n) (suc i) ws l e =
 pub over-next : {S : Type 0} (f : Record → S → S) (none : S) (ws : List ℕ) (i : ℕ) → over f (readTo ws (i + 1)) none ≡ f (readAt ws i) (over f (readTo ws i) none)
 over-next f none ws i = ap (λ rs. over f rs none) (read-more ws i) ∙ over-more f (readTo ws i) (readAt ws i) none
 
+pub filled-next : (at : Cells) (n : ℕ) (ws : List ℕ) (i : ℕ) → filled at n (readTo ws (i + 1)) ≡ added at (readAt ws i) (filled at n (readTo ws i))
+unfolding filled
+filled-next at n ws i = over-next (added at) (blank n) ws i
+
 pub total-next : (f : Record → ℕ) (ws : List ℕ) (i : ℕ) → total f (readTo ws (i + 1)) ≡ total f (readTo ws i) + f (readAt ws i)
 total-next f ws i = ap (total f) (read-more ws i) ∙ total-more f (readTo ws i) (readAt ws i)
 
@@ -82,15 +86,13 @@ module _ (ws : List ℕ) (b : isBook ws ≡ true) where
   legal-at i l = entry-facts (drop (3 + 5 * i) ws) (book-entry ws b i l .ok) .is-legal
 
   -- no cell passes the entries of a full book times the largest amount
+  pub table-to : {at : Cells} {most : ℕ} → Limited at most → (k i : ℕ) → i ≤ countOf ws → AtMost (mostEntries * most) (filled at k (readTo ws i))
+  table-to {at} {most} m k i l =
+      record { at-most = λ j. le-trans (cell-limit at most m k j (readTo ws i) (legal-to i l)) (mul-le-mul-right most (few-to i l)) }
+
   pub scan-below : (k : ℕ) {at : Cells} {most n i : ℕ} {table : List ℕ} → Limited at most → n ≡ countOf ws → Scanned (added at) (blank k) ws n i table → AtMost (mostEntries * most) table
   unfolding filled
-  scan-below k {at} {most} {i = i} m c p =
-      let l : i ≤ countOf ws = omega (arith, p .upto) in
-      record {
-        at-most = λ j.
-            rw (p .state)
-            (le-trans (cell-limit at most m k j (readTo ws i) (legal-to i l)) (mul-le-mul-right most (few-to i l)));
-      }
+  scan-below k {i = i} m c p = rw (p .state) (table-to m k i (omega (arith, p .upto)))
 
   -- an entry read by its number
   module _ {n : ℕ} (i : ℕ) (c : n ≡ countOf ws) (h : i < n) where

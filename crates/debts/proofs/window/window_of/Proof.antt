@@ -37,8 +37,10 @@ add-entry-requires c κs =
     let below = c .before .before .loop-test .taken in
     rw (c .place-of .ensures) (
       scan-within b (s .pre) (k .loop .i) e below,
-      (legal-bounds (readAt b (k .loop .i)) (legal-at b (s .pre) (k .loop .i) (rw e at below)) .amount,
-      scan-below b (s .pre) 120 (window-limited (s .args .party) (s .args .day)) e (k .loop .inv)),
+      (
+        legal-bounds (readAt b (k .loop .i)) (legal-at b (s .pre) (k .loop .i) (rw e at below)) .amount,
+        scan-below b (s .pre) 120 (window-limited (s .args .party) (s .args .day)) e (k .loop .inv),
+      ),
     )
 
 add-i : tie.Need-add-i Inv-loop μ-loop
