@@ -6,8 +6,8 @@ use Prim.Native.Nat.{ℕ, zero, suc, _+_, _*_, _≤_, _<_, zero-le}
 use native.Mathlib.Nat.{le-trans, mul-le-mul-right}
 use native.Mathlib.Numerals.{add-one}
 use native.Mathlib.Omega.{arith}
-use lib.ListN.{length, getD, drop}
-use lib.Seq.{drop-drop}
+use lib.ListN.{length, getD, take, drop}
+use lib.Seq.{take-all, drop-drop}
 use Rattle.numbers.specs.Sums.{total}
 use Rattle.numbers.specs.Tests.{all}
 use Rattle.numbers.proofs.TestLaws.{and-split, and-join}
@@ -93,6 +93,12 @@ module _ (ws : List ℕ) (b : isBook ws ≡ true) where
   pub scan-below : (k : ℕ) {at : Cells} {most n i : ℕ} {table : List ℕ} → Limited at most → n ≡ countOf ws → Scanned (added at) (blank k) ws n i table → AtMost (mostEntries * most) table
   unfolding filled
   scan-below k {i = i} m c p = rw (p .state) (table-to m k i (omega (arith, p .upto)))
+
+  pub scan-few : countOf ws ≤ mostEntries
+  scan-few = omega (arith, book-facts ws b .room)
+
+  pub scan-end : (i : ℕ) → countOf ws ≤ i → take i (entries ws) ≡ entries ws
+  scan-end i h = take-all i (entries ws) (omega (arith, book-facts ws b .count))
 
   -- an entry read by its number
   module _ {n : ℕ} (i : ℕ) (c : n ≡ countOf ws) (h : i < n) where
