@@ -21,7 +21,7 @@ use Rattle.rules.specs.declared.EntryRead.{EntryRead}
 use Rattle.rules.proofs.WordLaws.{Fits, IsLaid, laid-book, book-facts, book-laid, legal-bounds}
 use Rattle.rules.proofs.BookLaws.{entry-at-laid, restatused-laid}
 use Rattle.words.proofs.BookCode.{Placed, book-entry}
-use Rattle.flags.specs.Tables.{recordRead}
+use Rattle.cells.specs.Cells.{recordRead}
 use Rattle.control.specs.Passes.{cancelledWords}
 use Rattle.rules.proofs.CancelLaws.{cancelOne, to-cancel-is-sale, one-legal}
 

@@ -7,7 +7,8 @@ use native.Mathlib.Omega.{arith}
 use lib.ListN.{getD}
 use Rattle.numbers.proofs.SumLaws.{cond-below}
 use Rattle.rules.specs.Collateral.{Money, debtOf, debts}
-use Rattle.debts.specs.Window.{mostInCell, moneyIn, AtMost}
+use Rattle.cells.specs.Cells.{AtMost}
+use Rattle.debts.specs.Window.{mostInCell, moneyIn}
 use Rattle.debts.specs.Walk.{chosen, leftAfter, owed}
 
 pub owed-limit : (a i : Bool) (b s c t : ℕ) → b ≤ mostInCell → c ≤ mostInCell → owed a i b s c t ≤ 2 * mostInCell

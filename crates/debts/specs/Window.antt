@@ -2,13 +2,14 @@
 -- For this crate's own functions: the law `window-debts` ties it to the sums of document 01.
 use mathlib.Core.Bool.{Bool, cond}
 use mathlib.Core.List.{List, [], _∷_}
-use Prim.Native.Nat.{ℕ, _+_, _-_, _*_, _≤_}
+use Prim.Native.Nat.{ℕ, _+_, _-_, _*_}
 use lib.Dec.{eqb, leb, ltb}
-use lib.ListN.{getD, set, replicate}
+use lib.ListN.{getD}
 use Rattle.numbers.specs.Tests.{every}
 use Rattle.rules.specs.Entry.{Label, Record, isMoney, standing, mostMoney}
 use Rattle.rules.specs.Words.{mostEntries}
 use Rattle.rules.specs.Collateral.{Money}
+use Rattle.cells.specs.Cells.{Cells, oneIf, filled}
 
 abbrev pub windowDays : ℕ
 windowDays = 30
@@ -31,24 +32,16 @@ inWindow p g l =
 unfoldable pub cellOf : ℕ → ℕ → Label → ℕ
 cellOf p g l = cond (inWindow p g l) (4 * (g - 1 - l .key .day) + (l .key .type - 17)) cellCount
 
-unfoldable pub addedAt : ℕ → ℕ → List ℕ → List ℕ
-addedAt cell amount cells = cond (ltb cell cellCount) (set cells cell (getD cells cell 0 + amount)) cells
-
--- the table after each of these entries was added in turn
-unfoldable pub filled : ℕ → ℕ → List Record → List ℕ → List ℕ
-filled p g [] cells = cells
-filled p g (r ∷ rs) cells = filled p g rs (addedAt (cellOf p g (r .label)) (r .amount) cells)
+abbrev pub windowCells : ℕ → ℕ → Cells
+windowCells p g l = oneIf (ltb (cellOf p g l) cellCount) (cellOf p g l)
 
 unfoldable pub windowOf : ℕ → ℕ → List Record → List ℕ
-windowOf p g rs = filled p g rs (replicate cellCount 0)
+windowOf p g rs = filled (windowCells p g) cellCount rs
 
 -- what a table holds, by day and type
 abbrev pub moneyIn : List ℕ → ℕ → Money
 moneyIn cells g = λ d t. getD cells (4 * (g - 1 - d) + (t - 17)) 0
 
--- no cell is above a number; in a full book none is above its entries' largest sum
-pub record AtMost (most : ℕ) (cells : List ℕ) : Type 0 where
-  pub at-most : (k : ℕ) → getD cells k 0 ≤ most
-
+-- what no cell of a full book is above
 abbrev pub mostInCell : ℕ
 mostInCell = mostEntries * mostMoney

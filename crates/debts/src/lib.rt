@@ -4,7 +4,8 @@ ghost use mathlib.Core.Bool.{true, cond};
 ghost use Prim.Native.Nat.{_+_, _-_, _*_, _≤_, min};
 ghost use Rattle.rules.specs.Words.{isBook, entries};
 ghost use Rattle.rules.specs.Collateral.{debts, moneyOf};
-ghost use Rattle.debts.specs.Window.{windowDays, mostInCell, AtMost, moneyIn};
+ghost use Rattle.cells.specs.Cells.{AtMost};
+ghost use Rattle.debts.specs.Window.{windowDays, mostInCell, moneyIn};
 ghost use Rattle.debts.specs.Walk.{chosen, leftAfter, owed};
 
 mod window;

@@ -5,7 +5,8 @@ ghost use Prim.Native.Nat.{_+_, _≤_};
 ghost use lib.ListN.{length, drop};
 ghost use Rattle.rules.specs.Entry.{mostMoney};
 ghost use Rattle.rules.specs.Words.{decode, isBook, entries};
-ghost use Rattle.debts.specs.Window.{mostInCell, AtMost, cellOf, addedAt, windowOf};
+ghost use Rattle.cells.specs.Cells.{added, AtMost};
+ghost use Rattle.debts.specs.Window.{mostInCell, cellOf, windowCells, windowOf};
 
 const CELLS: usize = 120;
 
@@ -35,7 +36,7 @@ pub fn add_entry(cells: &mut [u64; 120], book: &[u32], at: usize, party: u32, da
     requires { ⌜ at + 5 ≤ length (now book) ⌝ }
     requires { ⌜ decode (drop at (now book)) .amount ≤ mostMoney ⌝ }
     requires { ⌜ AtMost mostInCell (now cells) ⌝ }
-    ensures { λ _. ⌜ now (cells .exit) ≡ addedAt (cellOf party day (decode (drop at (now (book .entry))) .label)) (decode (drop at (now (book .entry))) .amount) (now (cells .entry)) ⌝ }
+    ensures { λ _. ⌜ now (cells .exit) ≡ added (windowCells party day) (decode (drop at (now (book .entry)))) (now (cells .entry)) ⌝ }
 {
     let cell = cell_at(book, at, party, day);
     if cell < CELLS {

@@ -3,33 +3,32 @@ use mathlib.Core.Path.{_≡_, refl, sym, ap, _∙_, fun-ext}
 use mathlib.Core.Logic.{inl, inr}
 use mathlib.Core.Bool.{Bool, true, false, _&&_}
 use mathlib.Core.List.{List}
-use Prim.Native.Nat.{ℕ, _+_, _*_, _≤_, _<_}
-use native.Mathlib.Omega.{arith}
-use lib.ListN.{length, getD, take, drop}
-use lib.Seq.{getD-take, getD-drop}
+use Prim.Native.Nat.{ℕ, _+_, _*_}
+use native.Mathlib.Nat.{le-refl}
+use lib.ListN.{getD}
 use Rattle.numbers.proofs.TestLaws.{bool-cases}
 use Rattle.rules.specs.Entry.{partyOk}
-use Rattle.rules.specs.Words.{isBook, entries, coefficientOf, toleranceOf}
+use Rattle.rules.specs.Words.{isBook, entries, countOf, coefficientOf, toleranceOf}
 use Rattle.rules.specs.Balance.{balance}
 use Rattle.rules.specs.Control.{Parties, detectedIn}
 use Rattle.rules.proofs.WordLaws.{book-facts, within-true}
-use Rattle.rules.proofs.Limits.{volume-sum, bought-sum}
-use Rattle.tally.specs.Bounded.{Bounded}
+use Rattle.cells.specs.Cells.{AtMost}
+use Rattle.cells.proofs.ScanLaws.{table-to}
+use Rattle.tally.specs.Bounded.{Bounded, mostSum}
 use Rattle.flags.specs.Tables.{flagged, noFlags, tallyAt, boughtCell, tableOf, detectedAmong, checked, Flaggable}
-use Rattle.flags.proofs.TableLaws.{length-table, sum-cell, bought-cell, tally-cells}
+use Rattle.flags.proofs.TableLaws.{day-limited, length-table, sum-at, bought-cell, tally-cells}
 
 module _ (ws : List ℕ) (b : isBook ws ≡ true) (d : ℕ) where
-  few : length (entries ws) ≤ 3072
-  few = let f = book-facts ws b in omega (arith, f .count, f .room)
+  table-within : AtMost mostSum (tableOf d (entries ws))
+  unfolding tableOf entries
+  table-within = table-to ws b (day-limited d) 17000 (countOf ws) (le-refl (countOf ws))
 
-  table-bounded : (p : ℕ) → 1 ≤ p → Bounded (tallyAt (tableOf d (entries ws)) p) (getD (tableOf d (entries ws)) (boughtCell p) 0) (coefficientOf ws) (toleranceOf ws)
-  table-bounded p low =
+  table-bounded : (p : ℕ) → Bounded (tallyAt (tableOf d (entries ws)) p) (getD (tableOf d (entries ws)) (boughtCell p) 0) (coefficientOf ws) (toleranceOf ws)
+  table-bounded p =
       let f = book-facts ws b in
       record {
-        sums = λ i h.
-            rw (getD-take 16 (drop (17 * p) (tableOf d (entries ws))) i 0 h, getD-drop (17 * p) (tableOf d (entries ws)) i 0, sum-cell d (entries ws) (f .legals) p i h)
-            (volume-sum (entries ws) (f .legals) few p d (i + 1) (omega arith));
-        bought = rw (bought-cell d (entries ws) (f .legals) p low) (bought-sum (entries ws) (f .legals) few p d);
+        sums = λ i h. rw (sum-at (tableOf d (entries ws)) p i h) (table-within .at-most (17 * p + i));
+        bought = table-within .at-most (boughtCell p);
         coefficient = f .coefficient;
         tolerance = f .tolerance;
       }
@@ -38,8 +37,8 @@ module _ (ws : List ℕ) (b : isBook ws ≡ true) (d : ℕ) where
   flaggable cells flags e n =
       rw e
       (record {
-        long = length-table d (entries ws) (book-facts ws b .legals);
-        bounded = λ p low high. table-bounded p low;
+        long = length-table d (entries ws);
+        bounded = λ p low high. table-bounded p;
         none = n;
       })
 
@@ -52,7 +51,6 @@ module _ (ws : List ℕ) (b : isBook ws ≡ true) (d : ℕ) where
           elim (bool-cases (partyOk p)) [
             | inl k ↦
                 let r = within-true 1 999 p k in
-                let l = book-facts ws b .legals in
-                rw (e, tally-cells d (entries ws) l p (r .1), bought-cell d (entries ws) l p (r .0))
+                rw (e, tally-cells d (entries ws) p (r .1), bought-cell d (entries ws) p (r .1) (r .0))
             | inr k ↦ rw k
           ]

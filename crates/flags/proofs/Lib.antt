@@ -1,5 +1,4 @@
 pub mod TableLaws
-pub mod ScanLaws
 pub mod FlagLaws
 pub mod DetectLaws
 pub mod BitLaws

@@ -14,7 +14,8 @@ use Rattle.calendar.specs.Calendar.{monthOf}
 use Rattle.rules.specs.Entry.{Record, key, legal, fault, statusOk, markOk, isCancelled, isStanding, isMark, isBilateral, dayOk}
 use Rattle.rules.specs.Control.{isEarlierOrLater, isRepeatedBuyer}
 use Rattle.rules.proofs.WordLaws.{Faultless, no-fault}
-use Rattle.flags.specs.Tables.{flagged, noFlags, over, isOther, Paired, pairOf, mostBits, bitAt, withBit, withFlag, noPairs, marked, pairMarked, pairsOf, isRepeated, buyerMarked, buyersOf}
+use Rattle.cells.specs.Cells.{over}
+use Rattle.flags.specs.Tables.{flagged, noFlags, isOther, Paired, pairOf, mostBits, bitAt, withBit, withFlag, noPairs, marked, pairMarked, pairsOf, isRepeated, buyerMarked, buyersOf}
 use Rattle.flags.proofs.FlagLaws.{no-flag, length-no-flags, length-flag, flag-after}
 use Rattle.flags.proofs.BitLaws.{length-bit, bit-after, no-bit}
 

@@ -3,23 +3,20 @@
 use mathlib.Core.Path.{_≡_}
 use mathlib.Core.Bool.{Bool, true, false, not, cond, _&&_}
 use mathlib.Core.List.{List, [], _∷_}
-use Prim.Native.Nat.{ℕ, _+_, _-_, _*_, _/_, _%_, _^_, _≤_}
+use Prim.Native.Nat.{ℕ, _+_, _*_, _/_, _%_, _^_, _≤_}
 use lib.Bits.{bitOr}
 use lib.Dec.{eqb}
 use lib.ListN.{length, getD, set, take, drop, replicate}
 use Rattle.numbers.specs.Tests.{every}
 use Rattle.calendar.specs.Calendar.{monthOf}
-use Rattle.rules.specs.Entry.{Record, keyOf, recordOf, key, isStanding, isCancelled, isVolume, isExport, bilateral, partyOk, lastParty}
+use Rattle.rules.specs.Entry.{Record, key, isCancelled, bilateral, partyOk, lastParty}
 use Rattle.rules.specs.Words.{entries, coefficientOf, toleranceOf}
-use Rattle.rules.specs.Balance.{dayAhead, balanceOf, isDetected}
+use Rattle.rules.specs.Balance.{dayAhead, balanceOf, isDetected, sumCount, sumPlace}
 use Rattle.rules.specs.Control.{Parties, detectedIn}
+use Rattle.cells.specs.Cells.{Cells, oneIf, over, filled}
+use Rattle.tally.specs.Scan.{counts}
 use Rattle.tally.specs.Bounded.{Bounded}
 use Rattle.rules.specs.declared.Tally.{Tally}
-use Rattle.rules.specs.declared.EntryRead.{EntryRead}
-
--- the record that figures read from an entry stand for
-abbrev pub recordRead : EntryRead → Record
-recordRead e = recordOf (keyOf (e .party) (e .day) (e .«entry_type») (e .counterparty)) (e .status) (e .amount)
 
 -- the parties whose flag is set
 abbrev pub flagged : List Bool → Parties
@@ -28,45 +25,31 @@ flagged flags p = getD flags p false
 unfoldable pub noFlags : List Bool
 noFlags = replicate 1000 false
 
--- each entry in turn
-module _ {S : Type 0} where
-  unfoldable pub over : (Record → S → S) → List Record → S → S
-  over f [] s = s
-  over f (r ∷ rs) s = over f rs (f r s)
+-- cells of a party: its sums of the day, and B
+abbrev pub partyCells : ℕ
+partyCells = sumCount + 1
 
--- 17 cells a party: its sixteen sums of the day, and B
 abbrev pub sumCell : ℕ → ℕ → ℕ
-sumCell p t = 17 * p + t - 1
+sumCell p t = partyCells * p + sumPlace t
 
 abbrev pub boughtCell : ℕ → ℕ
-boughtCell p = 17 * p + 16
+boughtCell p = partyCells * p + sumCount
 
-unfoldable pub addTo : List ℕ → ℕ → ℕ → List ℕ
-addTo cells i a = set cells i (getD cells i 0 + a)
+-- an entry that counts goes to its party's sum and, of a bilateral sale, to its counterparty's B
+abbrev pub dayCells : ℕ → Cells
+dayCells d l =
+    cond (counts d l) (sumCell (l .key .party) (l .key .type) ∷ oneIf (eqb (l .key .type) bilateral) (boughtCell (l .key .counterparty))) []
 
--- an entry that counts: standing, of the day, of a volume type, no export
-unfoldable pub counts : ℕ → Record → Bool
-counts d r = every (isStanding r ∷ eqb (key r .day) d ∷ isVolume (key r .type) ∷ not (isExport (key r)) ∷ [])
-
--- its amount goes to its party's sum and, of a bilateral sale, to its counterparty's B
-unfoldable pub added : ℕ → Record → List ℕ → List ℕ
-added d r cells =
-    let own : List ℕ = addTo cells (sumCell (key r .party) (key r .type)) (r .amount) in
-    cond (counts d r) (cond (eqb (key r .type) bilateral) (addTo own (boughtCell (key r .counterparty)) (r .amount)) own) cells
-
--- no cell passes this: 3,072 entries add two amounts each at most
-abbrev pub mostCell : ℕ
-mostCell = 9000000000000000
-
-unfoldable pub noSums : List ℕ
-noSums = replicate 17000 0
+-- for each number from 0 to 999
+abbrev pub tableCells : ℕ
+tableCells = partyCells * (lastParty + 1)
 
 unfoldable pub tableOf : ℕ → List Record → List ℕ
-tableOf d rs = over (added d) rs noSums
+tableOf d rs = filled (dayCells d) tableCells rs
 
 -- a party's cells as its tally
 abbrev pub tallyAt : List ℕ → ℕ → Tally
-tallyAt cells p = record { party = p; sums = take 16 (drop (17 * p) cells) }
+tallyAt cells p = record { party = p; sums = take sumCount (drop (partyCells * p) cells) }
 
 -- the detected ones among some parties, by their cells
 unfoldable pub detectedAmong : List ℕ → ℕ → ℕ → List Bool → Parties
@@ -79,7 +62,7 @@ checked ws d among p = flagged among p && detectedIn (coefficientOf ws) (toleran
 
 -- a table whose balances fit, and flags of which none is set
 pub record Flaggable (cells : List ℕ) (R TM : ℕ) (flags : List Bool) : Type 0 where
-  pub long : length cells ≡ 17000
+  pub long : length cells ≡ tableCells
   pub bounded : (p : ℕ) → 1 ≤ p → p ≤ lastParty → Bounded (tallyAt cells p) (getD cells (boughtCell p) 0) R TM
   pub none : flags ≡ noFlags
 

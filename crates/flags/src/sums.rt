@@ -2,39 +2,44 @@
 // A caller meets each `requires`.
 ghost use mathlib.Core.Path.{_≡_};
 ghost use mathlib.Core.Bool.{true};
-ghost use Prim.Native.Nat.{ℕ, _+_, _*_, _<_, _≤_};
+ghost use Prim.Native.Nat.{_+_, _*_, _<_, _≤_};
 ghost use lib.ListN.{length, getD, take, drop};
 ghost use Rattle.rules.specs.Entry.{legal};
 ghost use Rattle.rules.specs.Words.{isBook, entries};
-ghost use Rattle.rules.specs.Balance.{dayAhead, balanceOf, isDetected};
-ghost use Rattle.tally.specs.Bounded.{Bounded};
-ghost use Rattle.flags.specs.Tables.{flagged, noFlags, recordRead, counts, addTo, added, mostCell, noSums, tableOf, tallyAt, boughtCell, Flaggable, detectedAmong, checked};
+ghost use Rattle.rules.specs.Balance.{dayAhead, balanceOf, isDetected, sumCount};
+ghost use Rattle.cells.specs.Cells.{addTo, added, blank, AtMost, recordRead};
+ghost use Rattle.tally.specs.Scan.{counts};
+ghost use Rattle.tally.specs.Bounded.{Bounded, mostSum};
+ghost use Rattle.flags.specs.Tables.{flagged, noFlags, partyCells, tableCells, dayCells, tableOf, tallyAt, boughtCell, Flaggable, detectedAmong, checked};
 use position::parts;
 use rules::EntryRead;
+use rules::SUMS;
 use rules::Tally;
-
-// 17 cells for each number from 0 to 999: a party's sixteen sums of the day, and B.
-const CELLS: usize = 17000;
-
-type Table = [u64; CELLS];
 
 // A flag for each number from 0 to 999; 0 is no party.
 pub const NUMBERS: usize = 1000;
 
 pub type Flags = [bool; NUMBERS];
 
+// The cells of each number: a party's sums of the day, and B.
+const PARTY_CELLS: usize = SUMS + 1;
+
+const CELLS: usize = PARTY_CELLS * NUMBERS;
+
+type Table = [u64; CELLS];
+
 // Whether an entry counts: standing, of the day, of a volume type, no export.
 fn counts(e: EntryRead, day: u32) -> bool
-    ensures { λ r. ⌜ r ≡ counts day (recordRead e) ⌝ }
+    ensures { λ r. ⌜ r ≡ counts day (recordRead e .label) ⌝ }
 {
     (e.status == words::STANDING)
         & (e.day == day)
-        & ((1 <= e.entry_type) & (e.entry_type <= 16))
+        & tally::is_volume(e.entry_type)
         & !((e.entry_type == words::BILATERAL) & (e.counterparty == 0))
 }
 
 fn add_to(table: &mut Table, cell: usize, amount: u64)
-    requires { ⌜ (cell < 17000) × (getD (now table) cell 0 + amount < 18446744073709551616) ⌝ }
+    requires { ⌜ (cell < tableCells) × (getD (now table) cell 0 + amount < 18446744073709551616) ⌝ }
     ensures { λ _. ⌜ now (table .exit) ≡ addTo (now (table .entry)) cell amount ⌝ }
 {
     table[cell] = table[cell] + amount;
@@ -43,22 +48,27 @@ fn add_to(table: &mut Table, cell: usize, amount: u64)
 // An entry's amount goes to its party's sum and, of a bilateral sale, to its counterparty's B.
 fn add_entry(table: &mut Table, e: EntryRead, day: u32)
     requires { ⌜ legal (recordRead e) ≡ true ⌝ }
-    requires { ⌜ ((j : ℕ) → getD (now table) j 0 ≤ mostCell) ⌝ }
-    ensures { λ _. ⌜ now (table .exit) ≡ added day (recordRead e) (now (table .entry)) ⌝ }
+    requires { ⌜ AtMost mostSum (now table) ⌝ }
+    ensures { λ _. ⌜ now (table .exit) ≡ added (dayCells day) (recordRead e) (now (table .entry)) ⌝ }
 {
     if !counts(e, day) {
         return;
     }
-    add_to(table, (17 * e.party + e.entry_type - 1) as usize, e.amount);
+    let place = tally::sum_place(e.entry_type);
+    add_to(table, PARTY_CELLS * (e.party as usize) + place, e.amount);
     if e.entry_type == words::BILATERAL {
-        add_to(table, (17 * e.counterparty + 16) as usize, e.amount);
+        add_to(
+            table,
+            PARTY_CELLS * (e.counterparty as usize) + SUMS,
+            e.amount,
+        );
     }
 }
 
 // One scan of the book fills the table.
 fn fill(book: &[u32], day: u32, table: &mut Table)
     requires { ⌜ isBook (now book) ≡ true ⌝ }
-    requires { ⌜ now table ≡ noSums ⌝ }
+    requires { ⌜ now table ≡ blank tableCells ⌝ }
     ensures { λ _. ⌜ now (table .exit) ≡ tableOf day (entries (now (book .entry))) ⌝ }
 {
     let count = words::count_of(book) as usize;
@@ -70,15 +80,15 @@ fn fill(book: &[u32], day: u32, table: &mut Table)
     }
 }
 
-// A party's sixteen sums.
-fn sums_of(table: &Table, party: usize) -> [u64; 16]
-    requires { ⌜ (party ≤ 999) × (length (now table) ≡ 17000) ⌝ }
-    ensures { λ r. ⌜ r ≡ take 16 (drop (17 * party) (now (table .entry))) ⌝ }
+// A party's sums.
+fn sums_of(table: &Table, party: usize) -> [u64; SUMS]
+    requires { ⌜ (party ≤ 999) × (length (now table) ≡ tableCells) ⌝ }
+    ensures { λ r. ⌜ r ≡ take sumCount (drop (partyCells * party) (now (table .entry))) ⌝ }
 {
-    let mut sums = [0u64; 16];
+    let mut sums = [0u64; SUMS];
     let mut k = 0;
-    while k < 16 {
-        sums[k] = table[17 * party + k];
+    while k < SUMS {
+        sums[k] = table[PARTY_CELLS * party + k];
         k += 1;
     }
     sums
@@ -86,12 +96,12 @@ fn sums_of(table: &Table, party: usize) -> [u64; 16]
 
 // Whether a party's day-ahead balance is detected: above zero.
 fn is_detected(table: &Table, party: u32, coefficient: u32, tolerance: u32) -> bool
-    requires { ⌜ (party ≤ 999) × (length (now table) ≡ 17000) ⌝ }
+    requires { ⌜ (party ≤ 999) × (length (now table) ≡ tableCells) ⌝ }
     requires { ⌜ Bounded (tallyAt (now table) party) (getD (now table) (boughtCell party) 0) coefficient tolerance ⌝ }
     ensures { λ r. ⌜ r ≡ isDetected (balanceOf dayAhead coefficient tolerance (tallyAt (now (table .entry)) party) (getD (now (table .entry)) (boughtCell party) 0)) ⌝ }
 {
     let sums = sums_of(table, party as usize);
-    let bought = table[17 * (party as usize) + 16];
+    let bought = table[PARTY_CELLS * (party as usize) + SUMS];
     let tally = Tally { party, sums };
     position::detected(parts::day_ahead_of(tally, bought, coefficient, tolerance))
 }

@@ -8,6 +8,7 @@ pub mod CallLaws
 pub mod ReadLaws
 pub mod EachLaws
 pub mod SumOrder
+pub mod SumPlaces
 pub mod CollateralOrder
 pub mod Limits
 pub mod AskedLaws

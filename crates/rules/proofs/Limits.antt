@@ -20,14 +20,14 @@ use Rattle.numbers.proofs.SumLaws.{cond-limit, cond-below, total-bound-where, s
 use Rattle.numbers.proofs.SignedLaws.{natAbs-add, natAbs-neg, natAbs-sub, natAbs-lower, sumℤ-bound}
 use Rattle.numbers.proofs.RoundingLaws.{half-up-bound, round-up-bound}
 use Rattle.rules.specs.Refusals.{badParty, badDay, badType, badCounterparty, badAmount, badLength, badFigure}
-use Rattle.rules.specs.Entry.{Key, Label, Record, key, mostVolume, mostMoney, within, isMoney, isType, isMark, isStanding, partyOk, dayOk, counterpartyOk, amountLimit, fault, markOk, statusOk, legal}
+use Rattle.rules.specs.Entry.{Key, Label, Record, key, mostVolume, mostMoney, within, isVolume, isMoney, isType, isMark, isStanding, partyOk, dayOk, counterpartyOk, amountLimit, fault, markOk, statusOk, legal}
 use Rattle.rules.specs.Words.{mostEntries, mostCoefficient, mostTolerance}
 use Rattle.rules.specs.Balance.{Volume, dayAhead, delivery, counted, countedTo, sumOf, boughtBy, tallyOf, saleTypes, coverTypes, saleSide, coverSide, balanceOf, balance}
 use Rattle.rules.specs.Month.{Tables, monthCause, weightedPrices, weights, aosmf, aedm, hours, mostHours, mostRows, mostPrice, volumeOk, priceAt, imbalanceAt, dmAt}
 use Rattle.rules.specs.Collateral.{Money, debtOf, debts, moneyOf, tradingDays, debt, quarters, generation, generationMargin, margin, trading, usedMonths, highestPrice, lowestVolume, imbalanceOver, imbalance, risk, yek, totalOf, monthOk, figuresOk}
 use Rattle.rules.specs.declared.Month.{Month}
 use Rattle.rules.specs.declared.Case.{Case}
-use Rattle.rules.proofs.SumOrder.{picked, forTests, toTests, CountsFor, counts-for, counts-to, sale-sums, cover-sums, sale-range, cover-range}
+use Rattle.rules.proofs.SumOrder.{picked, forTests, toTests, CountsFor, counts-for, counts-to, sale-sums, cover-sums}
 use Rattle.rules.proofs.WordLaws.{within-true}
 
 -- what a legal record holds is within the limit of its type
@@ -70,9 +70,9 @@ pub money-limit : (t : ℕ) → amountLimit t ≤ mostMoney
 unfolding amountLimit
 money-limit t = cond-limit (isMoney t) (λ e. le-refl mostMoney) (λ e. omega arith)
 
-pub volume-limit : (t : ℕ) → t ≤ 16 → amountLimit t ≡ mostVolume
+pub volume-limit : (t : ℕ) → isVolume t ≡ true → amountLimit t ≡ mostVolume
 unfolding amountLimit
-volume-limit t h = rw (lt-leb 17 t (omega arith))
+volume-limit t e = let h = within-true 1 16 t e in rw (lt-leb 17 t (omega arith))
 
 -- the sums of a book
 picked-limit : (f : Label → Bool) (k : ℕ) (r : Record) → (f (r .label) ≡ true → r .amount ≤ k) → picked f r ≤ k
@@ -91,7 +91,7 @@ module _ (rs : List Record) (ok : all legal rs ≡ true) where
   bought-limit p d =
       total-bound-where legal (countedTo p d) mostVolume
       (λ r l. picked-limit (λ x. every (toTests p d x)) mostVolume r
-      (λ e. rw (counts-to p d (r .label) e .type, volume-limit 6 (omega arith)) at (legal-amount r l))) rs ok
+      (λ e. rw (counts-to p d (r .label) e .type, volume-limit 6 refl) at (legal-amount r l))) rs ok
 
 -- an entry is a purchase of at most one day: debts over days stay within one sum over the entries before a day
 early : ℕ → Record → ℕ
@@ -158,44 +158,51 @@ few-sales : (v : Volume) → length (saleTypes v) ≤ 6
 few-sales delivery = omega arith
 few-sales dayAhead = omega arith
 
+sale-volumes : (v : Volume) → all isVolume (saleTypes v) ≡ true
+unfolding all
+sale-volumes delivery = refl
+sale-volumes dayAhead = refl
+
+cover-volumes : (v : Volume) → all isVolume (coverTypes v) ≡ true
+unfolding all
+cover-volumes delivery = refl
+cover-volumes dayAhead = refl
+
 few-covers : (v : Volume) → length (coverTypes v) ≤ 8
 few-covers delivery = omega arith
 few-covers dayAhead = omega arith
 
 -- the sums of a full book, and the two sides of a balance
 module _ (rs : List Record) (ok : all legal rs ≡ true) (few : length rs ≤ mostEntries) where
-  pub money-sum : (p d t : ℕ) → sumOf p d t rs ≤ 3072000000000000
+  pub money-sum : (p d t : ℕ) → sumOf p d t rs ≤ mostEntries * mostMoney
   money-sum p d t = le-trans (sum-limit rs ok p d t) (mul-le-mul few (money-limit t))
 
-  pub volume-sum : (p d t : ℕ) → t ≤ 16 → sumOf p d t rs ≤ 3072000000000
+  pub volume-sum : (p d t : ℕ) → isVolume t ≡ true → sumOf p d t rs ≤ mostEntries * mostVolume
   volume-sum p d t h = le-trans (sum-limit rs ok p d t) (rw (volume-limit t h) (mul-le-mul-right mostVolume few))
 
-  pub bought-sum : (p d : ℕ) → boughtBy p d rs ≤ 3072000000000
+  pub bought-sum : (p d : ℕ) → boughtBy p d rs ≤ mostEntries * mostVolume
   bought-sum p d = le-trans (bought-limit rs ok p d) (mul-le-mul-right mostVolume few)
 
-  pub debt-sum : (c : Case) → debt c rs ≤ 3072000000000000
+  pub debt-sum : (c : Case) → debt c rs ≤ mostEntries * mostMoney
   debt-sum c = le-trans (debt-limit c rs ok) (mul-le-mul-right mostMoney few)
 
-  types-sum : (p d a b : ℕ) → b ≤ 16 → (ts : List ℕ) → all (within a b) ts ≡ true →
-      total (λ t. sumOf p d t rs) ts ≤ length ts * 3072000000000
-  types-sum p d a b h ts e =
-      total-bound-where (within a b) (λ t. sumOf p d t rs) 3072000000000
-      (λ t w. volume-sum p d t (le-trans (within-true a b t w .1) h)) ts e
+  types-sum : (p d : ℕ) (ts : List ℕ) → all isVolume ts ≡ true → total (λ t. sumOf p d t rs) ts ≤ length ts * (mostEntries * mostVolume)
+  types-sum p d ts e = total-bound-where isVolume (λ t. sumOf p d t rs) (mostEntries * mostVolume) (volume-sum p d) ts e
 
   pub sale-limit : (v : Volume) (p d : ℕ) → saleSide v (tallyOf p d rs) ≤ 18432000000000
   sale-limit v p d =
-      omega (arith, sale-sums v p d rs, types-sum p d 1 6 (omega arith) (saleTypes v) (sale-range v), few-sales v)
+      omega (arith, sale-sums v p d rs, types-sum p d (saleTypes v) (sale-volumes v), few-sales v)
 
   pub cover-limit : (v : Volume) (p d : ℕ) → coverSide v (tallyOf p d rs) (boughtBy p d rs) ≤ 30720000000000
   cover-limit v p d =
       omega (
         arith,
         cover-sums v p d (boughtBy p d rs) rs,
-        types-sum p d 7 14 (omega arith) (coverTypes v) (cover-range v),
+        types-sum p d (coverTypes v) (cover-volumes v),
         few-covers v,
         bought-sum p d,
-        volume-sum p d 15 (omega arith),
-        volume-sum p d 16 (omega arith),
+        volume-sum p d 15 refl,
+        volume-sum p d 16 refl,
       )
 
   pub balance-limit : (v : Volume) (R TM p d : ℕ) → R ≤ mostCoefficient → TM ≤ mostTolerance →

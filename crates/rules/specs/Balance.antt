@@ -53,11 +53,18 @@ boughtBy p d rs = total (countedTo p d) rs
 abbrev pub volumeTypes : List ℕ
 volumeTypes = 1 ∷ 2 ∷ 3 ∷ 4 ∷ 5 ∷ 6 ∷ 7 ∷ 8 ∷ 9 ∷ 10 ∷ 11 ∷ 12 ∷ 13 ∷ 14 ∷ 15 ∷ 16 ∷ []
 
+-- the number of sums, and the place of a type's sum, counted from 0
+abbrev pub sumCount : ℕ
+sumCount = 16
+
+abbrev pub sumPlace : ℕ → ℕ
+sumPlace t = t - 1
+
 unfoldable pub tallyOf : ℕ → ℕ → List Record → Tally
 tallyOf p d rs = record { party = p; sums = map (λ t. sumOf p d t rs) volumeTypes }
 
 abbrev pub sumNo : Tally → ℕ → ℕ
-sumNo t k = getD (t .sums) (k - 1) 0
+sumNo t k = getD (t .sums) (sumPlace k) 0
 
 -- A = B + the larger of sums 15 and 16
 unfoldable pub acquired : Tally → ℕ → ℕ
@@ -105,7 +112,7 @@ balanceAnswer v ws p d =
     }
 
 abbrev pub noTally : Tally
-noTally = record { party = 0; sums = replicate 16 0 }
+noTally = record { party = 0; sums = replicate sumCount 0 }
 
 unfoldable pub tallyAnswer : List ℕ → ℕ → ℕ → TallyAnswer
 tallyAnswer ws p d =

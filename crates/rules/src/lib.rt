@@ -37,11 +37,14 @@ pub struct BalanceAnswer {
     pub balance: i64,
 }
 
+// The sums of a tally: one for each volume type.
+pub const SUMS: usize = 16;
+
 // A party's sums of a day, one for each volume type, 1 to 16.
 #[repr(C)]
 pub struct Tally {
     pub party: u32,
-    pub sums: [u64; 16],
+    pub sums: [u64; SUMS],
 }
 
 // A tally, and B: what others sold to the party by bilateral sale.

@@ -3,9 +3,10 @@ ghost use mathlib.Core.Path.{_≡_};
 ghost use Prim.Native.Nat.{_≤_};
 ghost use mathlib.Core.Bool.{true};
 ghost use Rattle.tally.specs.Scan.{scanned, noneFor};
-ghost use Rattle.rules.specs.Entry.{lastParty, lastDay};
+ghost use Rattle.rules.specs.Entry.{lastParty, lastDay, isVolume};
 ghost use Rattle.rules.specs.Words.{isBook, entries};
-ghost use Rattle.rules.specs.Balance.{noTally};
+ghost use Rattle.rules.specs.Balance.{noTally, sumPlace};
+use rules::SUMS;
 use rules::Tally;
 use rules::TallyAnswer;
 
@@ -14,6 +15,20 @@ const EXPORT: u32 = 0x30000006;
 
 // The first kind 3 word of status 1.
 const WITHDRAWN_WORD: u32 = 0x31000000;
+
+// Whether a type has a sum in the tally, and where its sum stands.
+pub fn is_volume(entry_type: u32) -> bool
+    ensures { λ r. ⌜ r ≡ isVolume «entry_type» ⌝ }
+{
+    (1 <= entry_type) & (entry_type <= 16)
+}
+
+pub fn sum_place(entry_type: u32) -> usize
+    requires { ⌜ isVolume «entry_type» ≡ true ⌝ }
+    ensures { λ r. ⌜ r ≡ sumPlace «entry_type» ⌝ }
+{
+    (entry_type - 1) as usize
+}
 
 // One pass over a checked book for the tally and B. The tally comes by value and goes back by value; each amount is added
 // where its sum lies. Whole words are compared: a word of a book has its kind and no unnamed bit.
@@ -34,10 +49,10 @@ fn tallied(mut t: Tally, book: &[u32], day: u32) -> TallyAnswer
         if today
             & (book[at] == own)
             & (figures < WITHDRAWN_WORD)
-            & (figures % 256 <= 16)
+            & is_volume(figures % 256)
             & !(figures == EXPORT)
         {
-            let place = (figures % 256 - 1) as usize;
+            let place = sum_place(figures % 256);
             t.sums[place] = t.sums[place] + words::amount_at(book, at);
         }
         if today & (figures == sold) {
@@ -59,7 +74,7 @@ pub fn scan(book: &[u32], party: u32, day: u32) -> TallyAnswer
 {
     let t = Tally {
         party,
-        sums: [0u64; 16],
+        sums: [0u64; SUMS],
     };
     tallied(t, book, day)
 }
@@ -72,7 +87,7 @@ pub fn no_tally(cause: u32) -> TallyAnswer
         answer: cause,
         tally: Tally {
             party: 0,
-            sums: [0u64; 16],
+            sums: [0u64; SUMS],
         },
         bought: 0,
     }

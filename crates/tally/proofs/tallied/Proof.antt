@@ -5,10 +5,10 @@ use Prim.Native.Nat.{_<_, _-_, _*_, _+_, _%_}
 use native.Mathlib.Omega.{arith}
 use lib.ListN.{getD}
 use borrow.Author.Needs.{needs}
-use Rattle.rules.specs.Words.{entries, countOf}
-use Rattle.rules.specs.Balance.{tallyOf}
+use Rattle.rules.specs.Words.{countOf}
 use Rattle.words.proofs.BookCode.{book-long}
-use Rattle.tally.proofs.TallyLaws.{SoFar, Adds, readAt, none-yet, all-read, adds-same, bought-to, own-adds, own-none, sold-adds, sold-none, readTo}
+use Rattle.cells.proofs.ScanLaws.{readAt}
+use Rattle.tally.proofs.TallyLaws.{SoFar, Adds, tallyTo, none-yet, all-read, adds-same, bought-to, own-adds, own-none, sold-adds, sold-none}
 use Rattle.tally.proofs.tallied.Statement.{statement}
 use Rattle.tally.proofs.tallied.Tie as tie
 
@@ -20,18 +20,20 @@ abbrev μ-loop : tie.MeasureT-loop
 
 -- in a turn whose entry counts: the turn, the call's arguments, and what the entry adds
 abbrev turn : tie.Then1 Inv-loop μ-loop → tie.At-loop Inv-loop μ-loop
-turn c = c .before .before .before .before .before
+turn c = c .before .before .before .before .before .before
 
 abbrev start : tie.Then1 Inv-loop μ-loop → tie.Start Inv-loop μ-loop
 start c = turn c .before .before .before
 
 adds : (c : tie.Then1 Inv-loop μ-loop) →
     Adds
-    (tallyOf (start c .args .t1 .party) (start c .args .day) (readTo (start c .args .book .now) (turn c .loop .i)))
+    (tallyTo (start c .args .book .now) (start c .args .t1 .party) (start c .args .day) (turn c .loop .i))
     (getD (start c .args .book .now) (3 + 5 * turn c .loop .i + 2) 0 % 256)
     (readAt (start c .args .book .now) (turn c .loop .i) .amount)
-    (tallyOf (start c .args .t1 .party) (start c .args .day) (readTo (start c .args .book .now) (turn c .loop .i + 1)))
-adds c = own-adds (start c .args .book .now) (start c .pre .0) (start c .args .t1 .party) (start c .args .day) (turn c .loop .i) (omega arith) (c .if1 .taken)
+    (tallyTo (start c .args .book .now) (start c .args .t1 .party) (start c .args .day) (turn c .loop .i + 1))
+adds c =
+    own-adds (start c .args .book .now) (start c .pre .0) (start c .args .t1 .party) (start c .args .day) (turn c .loop .i) (omega arith)
+    (rw (c .before .is-volume .ensures) at (c .if1 .taken))
 
 count-of-requires : tie.Need-count-of-requires Inv-loop μ-loop
 count-of-requires c κs = let s = c .before in book-long (s .args .book .now) (s .pre .0)
@@ -86,38 +88,38 @@ mul-if1 c = search needs
 shared-slice-read-if1 : tie.Need-shared-slice-read-if1 Inv-loop μ-loop
 shared-slice-read-if1 c = search needs
 
-sub-place : tie.Need-sub-place Inv-loop μ-loop
-sub-place c = adds c .above
+is-volume-requires : tie.Need-is-volume-requires Inv-loop μ-loop
+is-volume-requires c κs = search needs
 
-cast-place : tie.Need-cast-place Inv-loop μ-loop
-cast-place c = search needs
+sum-place-requires : tie.Need-sum-place-requires Inv-loop μ-loop
+sum-place-requires c κs = adds c .volume
 
 mul-t : tie.Need-mul-t Inv-loop μ-loop
-mul-t c = omega (arith, adds c .place)
+mul-t c = omega (arith, adds (c .before) .place, c .sum-place .ensures)
 
 element-copy-out-t : tie.Need-element-copy-out-t Inv-loop μ-loop
-element-copy-out-t c = adds c .place
+element-copy-out-t c = rw (c .sum-place .ensures) (adds (c .before) .place)
 
 amount-at-requires : tie.Need-amount-at-requires Inv-loop μ-loop
 amount-at-requires c κs = search needs
 
 add-t : tie.Need-add-t Inv-loop μ-loop
 add-t c =
-    rw (turn (c .before .before) .loop .inv .tally, c .amount-at .ensures)
-    (record { fits = omega (arith, adds (c .before .before) .fits) })
+    let f = c .before .before .before in
+    rw (turn f .loop .inv .tally, c .amount-at .ensures, c .before .before .sum-place .ensures) (record { fits = adds f .fits })
 
 mul-t-2 : tie.Need-mul-t-2 Inv-loop μ-loop
-mul-t-2 c = omega (arith, adds (c .before .before) .place)
+mul-t-2 c = omega (arith, adds (c .before .before .before) .place, c .before .before .sum-place .ensures)
 
 element-write-t : tie.Need-element-write-t Inv-loop μ-loop
-element-write-t c = adds (c .before .before) .place
+element-write-t c = rw (c .before .before .sum-place .ensures) (adds (c .before .before .before) .place)
 
 amount-at-requires-2 : tie.Need-amount-at-requires-2 Inv-loop μ-loop
 amount-at-requires-2 c κs = search needs
 
 add-bought : tie.Need-add-bought Inv-loop μ-loop
 add-bought c =
-    let l = c .before .before .before .before .before .before .before in
+    let l = c .before .before .before .before .before .before .before .before in
     let s = l .before .before .before in
     let n : l .loop .i < countOf (s .args .book .now) = omega arith in
     omega (
@@ -134,24 +136,25 @@ loop-less c = search needs
 
 loop-again : tie.Need-loop-again Inv-loop μ-loop
 loop-again c =
-    let l = c .before .before .before .before .before .before in
+    let l = c .before .before .before .before .before .before .before in
     let s = l .before .before .before in
     let ws = s .args .book .now in
     let p = s .args .t1 .party in
     let d = s .args .day in
     let n : l .loop .i < countOf ws = omega arith in
+    let volume = c .before .before .is-volume .ensures in
     record {
       within = omega arith;
       room = l .loop .inv .room;
       tally =
           ⊎-elim
-          (λ w. w .3 ∙ adds-same (own-adds ws (s .pre .0) p d (l .loop .i) n (w .0 .taken)) (l .loop .inv .tally) (w .2 .ensures) refl)
-          (λ w. w .1 ∙ l .loop .inv .tally ∙ sym (own-none ws (s .pre .0) p d (l .loop .i) n (w .0 .left)))
+          (λ w. adds-same (own-adds ws (s .pre .0) p d (l .loop .i) n (rw volume at (w .0 .taken))) (l .loop .inv .tally) (w .1 .ensures) (w .3 .ensures) (w .4))
+          (λ w. w .1 ∙ l .loop .inv .tally ∙ sym (own-none ws (s .pre .0) p d (l .loop .i) n (rw volume at (w .0 .left))))
           (c .before .if1 .came);
       bought-is =
           ⊎-elim
           (λ w. omega (arith, sold-adds ws (s .pre .0) p d (l .loop .i) n (s .pre .1 .0) (w .0 .taken), w .1 .ensures))
-          (λ w. w .1 ∙ l .loop .inv .bought-is ∙ sym (sold-none ws (s .pre .0) p d (l .loop .i) n (w .0 .left)))
+          (λ w. w .1 ∙ l .loop .inv .bought-is ∙ sym (sold-none ws (s .pre .0) p d (l .loop .i) n (s .pre .1 .0) (w .0 .left)))
           (c .if2 .came);
     }
 
@@ -184,8 +187,8 @@ tallied-spec =
     shared-slice-read-figures
     mul-if1
     shared-slice-read-if1
-    sub-place
-    cast-place
+    is-volume-requires
+    sum-place-requires
     mul-t
     element-copy-out-t
     amount-at-requires

@@ -1,7 +1,7 @@
 -- `debts::window::add_entry` meets its contract. Assumes nothing.
 use native.Mathlib.Omega.{arith}
 use borrow.Author.Tests.{lt-ltb, le-ltb}
-use Rattle.debts.specs.Window.{addedAt}
+use Rattle.cells.specs.Cells.{added, addToEach}
 use borrow.Author.Needs.{needs}
 use Rattle.debts.proofs.window.add_entry.Statement.{statement}
 use Rattle.debts.proofs.window.add_entry.Tie as tie
@@ -27,13 +27,13 @@ element-write-cells : tie.Need-element-write-cells
 element-write-cells c = search needs
 
 returns : tie.Need-returns
-unfolding addedAt
+unfolding added addToEach
 returns c =
     let cell = c .before .before .before .cell-at in
     rw (← cell .ensures, lt-ltb (cell .result) 120 (c .before .before .if1 .taken), c .before .amount-at .ensures)
 
 returns-2 : tie.Need-returns-2
-unfolding addedAt
+unfolding added addToEach
 returns-2 c = rw (← c .before .cell-at .ensures, le-ltb (c .before .cell-at .result) 120 (c .if1 .left))
 
 pub add-entry-spec : {M : Type 1} → statement M

@@ -1,5 +1,5 @@
 -- `flags::pairs::is_other` meets its contract. Assumes nothing.
-use Rattle.flags.specs.Tables.{recordRead}
+use Rattle.cells.specs.Cells.{recordRead}
 use Rattle.flags.proofs.PairLaws.{other-not, other-by-month}
 use borrow.Author.Needs.{needs}
 use Rattle.flags.proofs.pairs.is_other.Statement.{statement}

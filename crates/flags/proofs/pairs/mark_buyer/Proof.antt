@@ -1,7 +1,8 @@
 -- `flags::pairs::mark_buyer` meets its contract. Assumes nothing.
 use mathlib.Core.Path.{sym, _∙_}
 use native.Mathlib.Omega.{arith}
-use Rattle.flags.specs.Tables.{recordRead, Paired}
+use Rattle.cells.specs.Cells.{recordRead}
+use Rattle.flags.specs.Tables.{Paired}
 use Rattle.flags.proofs.PairLaws.{paired, of-day-cancelled, pair-in, buyer-not, buyer-marked, buyer-kept}
 use borrow.Author.Needs.{needs}
 use Rattle.flags.proofs.pairs.mark_buyer.Statement.{statement}

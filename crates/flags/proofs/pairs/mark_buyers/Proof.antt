@@ -1,7 +1,7 @@
 -- `flags::pairs::mark_buyers` meets its contract. The loop's invariant: the flags are those of the entries passed. Assumes nothing.
 use Prim.Native.Nat.{_-_}
 use Rattle.flags.specs.Tables.{buyerMarked, noFlags, buyersOf}
-use Rattle.flags.proofs.ScanLaws.{Scanned, scan}
+use Rattle.cells.proofs.ScanLaws.{Scanned, scan}
 use borrow.Author.Needs.{needs}
 use Rattle.flags.proofs.pairs.mark_buyers.Statement.{statement}
 use Rattle.flags.proofs.pairs.mark_buyers.Tie as tie

@@ -1,7 +1,8 @@
 -- `flags::pairs::mark_pair` meets its contract. Assumes nothing.
 use mathlib.Core.Path.{_≡_, sym, _∙_}
 use mathlib.Core.Bool.{true}
-use Rattle.flags.specs.Tables.{recordRead, isOther, Paired}
+use Rattle.cells.specs.Cells.{recordRead}
+use Rattle.flags.specs.Tables.{isOther, Paired}
 use Rattle.flags.proofs.PairLaws.{paired, other-cancelled, pair-in, pair-marked, pair-kept}
 use borrow.Author.Needs.{needs}
 use Rattle.flags.proofs.pairs.mark_pair.Statement.{statement}

@@ -1,7 +1,7 @@
 -- `flags::pairs::mark_pairs` meets its contract. The loop's invariant: the bits are those of the entries passed. Assumes nothing.
 use Prim.Native.Nat.{_-_}
 use Rattle.flags.specs.Tables.{pairMarked, noPairs, pairsOf}
-use Rattle.flags.proofs.ScanLaws.{Scanned, scan}
+use Rattle.cells.proofs.ScanLaws.{Scanned, scan}
 use borrow.Author.Needs.{needs}
 use Rattle.flags.proofs.pairs.mark_pairs.Statement.{statement}
 use Rattle.flags.proofs.pairs.mark_pairs.Tie as tie

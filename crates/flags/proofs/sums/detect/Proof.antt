@@ -1,14 +1,14 @@
 -- `flags::sums::detect` meets its contract. Assumes nothing.
 use mathlib.Core.Path.{_≡_, refl, _∙_}
 use Rattle.words.proofs.BookCode.{book-long}
-use Rattle.flags.specs.Tables.{noSums}
+use Rattle.cells.specs.Cells.{blank}
 use Rattle.flags.proofs.DetectLaws.{flaggable, table-detects}
 use borrow.Author.Needs.{needs}
 use Rattle.flags.proofs.sums.detect.Statement.{statement}
 use Rattle.flags.proofs.sums.detect.Tie as tie
 
 fill-requires : tie.Need-fill-requires
-unfolding noSums
+unfolding blank
 fill-requires c κs = (c .before .before .pre .0, refl)
 
 coefficient-of-requires : tie.Need-coefficient-of-requires

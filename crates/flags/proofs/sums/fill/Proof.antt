@@ -1,13 +1,15 @@
 -- `flags::sums::fill` meets its contract. The loop's invariant: the table is that of the entries passed. Assumes nothing.
 use Prim.Native.Nat.{_-_}
-use Rattle.flags.specs.Tables.{added, noSums, tableOf}
-use Rattle.flags.proofs.ScanLaws.{Scanned, scan, scan-below}
+use Rattle.cells.specs.Cells.{added, blank, filled}
+use Rattle.flags.specs.Tables.{dayCells, tableCells, tableOf}
+use Rattle.flags.proofs.TableLaws.{day-limited}
+use Rattle.cells.proofs.ScanLaws.{Scanned, scan, scan-below}
 use borrow.Author.Needs.{needs}
 use Rattle.flags.proofs.sums.fill.Statement.{statement}
 use Rattle.flags.proofs.sums.fill.Tie as tie
 
 abbrev Inv-loop : tie.InvT-loop
-Inv-loop book day table₀ count i₀ table i = Scanned (added day) noSums book count i table
+Inv-loop book day table₀ count i₀ table i = Scanned (added (dayCells day)) (blank tableCells) book count i table
 
 abbrev μ-loop : tie.MeasureT-loop
 μ-loop book day table₀ count i₀ table i = count - i
@@ -31,7 +33,10 @@ read-at-requires : tie.Need-read-at-requires Inv-loop μ-loop
 read-at-requires c κs = search scan
 
 add-entry-requires : tie.Need-add-entry-requires Inv-loop μ-loop
-add-entry-requires c κs = (search scan, search scan-below)
+add-entry-requires c κs =
+    let l = c .before .before .before in
+    let s = l .before .before .before in
+    (search scan, scan-below (s .args .book .now) (s .pre .0) tableCells (day-limited (s .args .day)) (l .before .count-of .ensures) (l .loop .inv))
 
 add-i : tie.Need-add-i Inv-loop μ-loop
 add-i c = search needs
@@ -43,7 +48,7 @@ loop-again : tie.Need-loop-again Inv-loop μ-loop
 loop-again c = search scan
 
 returns : tie.Need-returns Inv-loop μ-loop
-unfolding tableOf
+unfolding tableOf filled
 returns c = search scan
 
 pub fill-spec : {M : Type 1} → statement M

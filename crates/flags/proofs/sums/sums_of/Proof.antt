@@ -8,8 +8,6 @@ use Rattle.flags.proofs.TableLaws.{cells-read}
 use borrow.Author.Needs.{needs}
 use Rattle.flags.proofs.sums.sums_of.Statement.{statement}
 use Rattle.flags.proofs.sums.sums_of.Tie as tie
-use Rattle.flags.proofs.sums.sums_of.Reads as reads
-use Rattle.flags.proofs.sums.sums_of.Lts as lts
 
 abbrev Inv-loop : tie.InvT-loop
 Inv-loop table party sums₀ k₀ sums k = (k ≤ 16) × (length sums ≡ 16) × ((j : ℕ) → j < k → getD sums j 0 ≡ getD table (17 * party + j) 0)
@@ -17,43 +15,33 @@ Inv-loop table party sums₀ k₀ sums k = (k ≤ 16) × (length sums ≡ 16) ×
 abbrev μ-loop : tie.MeasureT-loop
 μ-loop table party sums₀ k₀ sums k = 16 - k
 
--- src/sums.rt:67:5
 loop-holds : tie.Need-loop-holds Inv-loop μ-loop
 loop-holds c = (search needs, refl, λ j h. absurd (omega arith))
 
--- src/sums.rt:68:25
 mul-sums : tie.Need-mul-sums Inv-loop μ-loop
 mul-sums c = search needs
 
--- src/sums.rt:68:25
 add-sums : tie.Need-add-sums Inv-loop μ-loop
 add-sums c = search needs
 
--- src/sums.rt:68:19
 mul-sums-2 : tie.Need-mul-sums-2 Inv-loop μ-loop
 mul-sums-2 c = search needs
 
--- src/sums.rt:68:19
 element-copy-out-sums : tie.Need-element-copy-out-sums Inv-loop μ-loop
 element-copy-out-sums c = search needs
 
--- src/sums.rt:68:9
 mul-sums-3 : tie.Need-mul-sums-3 Inv-loop μ-loop
 mul-sums-3 c = search needs
 
--- src/sums.rt:68:9
 array-write-sums : tie.Need-array-write-sums Inv-loop μ-loop
 array-write-sums c = search needs
 
--- src/sums.rt:69:9
 add-k : tie.Need-add-k Inv-loop μ-loop
 add-k c = search needs
 
--- src/sums.rt:67:5
 loop-less : tie.Need-loop-less Inv-loop μ-loop
 loop-less c = search needs
 
--- src/sums.rt:67:5
 loop-again : tie.Need-loop-again Inv-loop μ-loop
 loop-again c =
     let l = c .before .before in
@@ -63,12 +51,11 @@ loop-again c =
       set-more 0 (λ j. getD (a .table .now) (17 * a .party + j) 0) (l .loop .sums) (l .loop .k) (rw (l .loop .inv .1) (c .before .loop-test .taken)) (l .loop .inv .2),
     )
 
--- src/sums.rt:61:1
 returns : tie.Need-returns Inv-loop μ-loop
 returns c =
     let l = c .before in
     let s = l .before in
-    cells-read (s .args .table .now) (l .loop .sums) (s .args .party) (s .pre .0) (s .pre .1) (l .loop .inv .1) (λ j h. l .loop .inv .2 j (omega (arith, c .loop-test .left)))
+    cells-read (s .args .table .now) (s .args .party) (s .pre .0) (s .pre .1) (l .loop .sums) (l .loop .inv .1) (λ j h. l .loop .inv .2 j (omega (arith, c .loop-test .left)))
 
 pub sums-of-spec : {M : Type 1} → statement M
 sums-of-spec =

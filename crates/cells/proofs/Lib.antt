@@ -1,0 +1,3 @@
+-- Laws that the crates above share.
+pub mod CellLaws
+pub mod ScanLaws
