@@ -6,7 +6,8 @@ use Prim.Native.Nat.{ℕ, zero, suc, _+_, _*_, _≤_, _<_, zero-le}
 use native.Mathlib.Omega.{arith}
 use lib.IntN.{ℤ}
 use lib.ListN.{length, length-append}
-use Rattle.rules.specs.DayFile.{wordsOf, items, fileCause, fileWords, fileNames}
+use Rattle.rules.specs.DayFile.{wordsOf, items, fileNames}
+use Rattle.rules.specs.Calls.{file, causeOf, wordsAfter}
 use Rattle.dayfile.proofs.AnswerLaws.{file-bytes}
 use Rattle.dayfile.proofs.FileLaws.{file-passes}
 use Rattle.text.proofs.TextLaws.{decimal-below, decimal-most, signed-most}
@@ -69,12 +70,12 @@ refusal-fits c = omega (arith, refusal-most c)
 
 report-most : (ws bs : List ℕ) → length (reportInto ws bs) ≤ mostText
 unfolding reportInto
-report-most ws bs = go (fileCause ws bs) refl
+report-most ws bs = go (causeOf ws (file bs)) refl
   where
-    go : (c : ℕ) → fileCause ws bs ≡ c → length (reportInto ws bs) ≤ mostText
+    go : (c : ℕ) → causeOf ws (file bs) ≡ c → length (reportInto ws bs) ≤ mostText
     go zero e =
-        rw (e, length-append header (allLines bs (fileWords ws bs)))
-        (omega (arith, all-most bs (fileWords ws bs), file-pairs 999 1 36525 0 bs, file-bytes bs (file-passes ws bs e .is-file)))
+        rw (e, length-append header (allLines bs (wordsAfter ws (file bs))))
+        (omega (arith, all-most bs (wordsAfter ws (file bs)), file-pairs 999 1 36525 0 bs, file-bytes bs (file-passes ws bs e .is-file)))
     go (suc c) e = rw e (refusal-fits (suc c))
 
 pub report-fits : (bs : List ℕ) → length (reportOn bs) ≤ mostText
