@@ -9,7 +9,7 @@ use lib.ListN.{length, length-append}
 use Rattle.rules.specs.DayFile.{wordsOf, items, fileNames}
 use Rattle.rules.specs.Calls.{file, causeOf, wordsAfter}
 use Rattle.dayfile.proofs.AnswerLaws.{file-bytes}
-use Rattle.dayfile.proofs.FileLaws.{file-passes}
+use Rattle.rules.proofs.CallLaws.{file-passes}
 use Rattle.text.proofs.TextLaws.{decimal-below, decimal-most, signed-most}
 use Rattle.report.specs.Report.{header, refusal, lineText, lineOf, eachFrom, partyLines, allLines, reportInto, reportOn, mostText}
 use Rattle.report.proofs.PairLaws.{sumFrom, from-times, pairs, named}
