@@ -1,7 +1,7 @@
 -- The parties that the table detects are those of the definition. Assumes nothing.
-use mathlib.Core.Path.{_≡_, refl, sym, ap, _∙_, fun-ext}
+use mathlib.Core.Path.{_≡_, fun-ext}
 use mathlib.Core.Logic.{inl, inr}
-use mathlib.Core.Bool.{Bool, true, false, _&&_}
+use mathlib.Core.Bool.{Bool, true}
 use mathlib.Core.List.{List}
 use Prim.Native.Nat.{ℕ, _+_, _*_}
 use native.Mathlib.Nat.{le-refl}
@@ -10,24 +10,24 @@ use Rattle.numbers.proofs.TestLaws.{bool-cases}
 use Rattle.rules.specs.Entry.{partyOk}
 use Rattle.rules.specs.Words.{isBook, entries, countOf, coefficientOf, toleranceOf}
 use Rattle.rules.specs.Balance.{balance}
-use Rattle.rules.specs.Control.{Parties, detectedIn}
+use Rattle.rules.specs.Control.{detectedIn}
 use Rattle.rules.proofs.WordLaws.{book-facts, within-true}
 use Rattle.cells.specs.Cells.{AtMost}
 use Rattle.cells.proofs.ScanLaws.{table-to}
 use Rattle.tally.specs.Bounded.{Bounded, mostSum}
-use Rattle.flags.specs.Tables.{flagged, noFlags, tallyAt, boughtCell, tableOf, detectedAmong, checked, Flaggable}
+use Rattle.flags.specs.Tables.{noFlags, partyCells, tableCells, tallyAt, boughtCell, tableOf, detectedAmong, checked, Flaggable}
 use Rattle.flags.proofs.TableLaws.{day-limited, length-table, sum-at, bought-cell, tally-cells}
 
 module _ (ws : List ℕ) (b : isBook ws ≡ true) (d : ℕ) where
   table-within : AtMost mostSum (tableOf d (entries ws))
   unfolding tableOf entries
-  table-within = table-to ws b (day-limited d) 17000 (countOf ws) (le-refl (countOf ws))
+  table-within = table-to ws b (day-limited d) tableCells (countOf ws) (le-refl (countOf ws))
 
   table-bounded : (p : ℕ) → Bounded (tallyAt (tableOf d (entries ws)) p) (getD (tableOf d (entries ws)) (boughtCell p) 0) (coefficientOf ws) (toleranceOf ws)
   table-bounded p =
       let f = book-facts ws b in
       record {
-        sums = λ i h. rw (sum-at (tableOf d (entries ws)) p i h) (table-within .at-most (17 * p + i));
+        sums = λ i h. rw (sum-at (tableOf d (entries ws)) p i h) (table-within .at-most (partyCells * p + i));
         bought = table-within .at-most (boughtCell p);
         coefficient = f .coefficient;
         tolerance = f .tolerance;

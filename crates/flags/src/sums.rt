@@ -4,7 +4,7 @@ ghost use mathlib.Core.Path.{_≡_};
 ghost use mathlib.Core.Bool.{true};
 ghost use Prim.Native.Nat.{_+_, _*_, _<_, _≤_};
 ghost use lib.ListN.{length, getD, take, drop};
-ghost use Rattle.rules.specs.Entry.{legal};
+ghost use Rattle.rules.specs.Entry.{legal, lastParty};
 ghost use Rattle.rules.specs.Words.{isBook, entries};
 ghost use Rattle.rules.specs.Balance.{dayAhead, balanceOf, isDetected, sumCount};
 ghost use Rattle.cells.specs.Cells.{addTo, added, blank, AtMost, recordRead};
@@ -82,7 +82,7 @@ fn fill(book: &[u32], day: u32, table: &mut Table)
 
 // A party's sums.
 fn sums_of(table: &Table, party: usize) -> [u64; SUMS]
-    requires { ⌜ (party ≤ 999) × (length (now table) ≡ tableCells) ⌝ }
+    requires { ⌜ (party ≤ lastParty) × (length (now table) ≡ tableCells) ⌝ }
     ensures { λ r. ⌜ r ≡ take sumCount (drop (partyCells * party) (now (table .entry))) ⌝ }
 {
     let mut sums = [0u64; SUMS];
@@ -96,7 +96,7 @@ fn sums_of(table: &Table, party: usize) -> [u64; SUMS]
 
 // Whether a party's day-ahead balance is detected: above zero.
 fn is_detected(table: &Table, party: u32, coefficient: u32, tolerance: u32) -> bool
-    requires { ⌜ (party ≤ 999) × (length (now table) ≡ tableCells) ⌝ }
+    requires { ⌜ (party ≤ lastParty) × (length (now table) ≡ tableCells) ⌝ }
     requires { ⌜ Bounded (tallyAt (now table) party) (getD (now table) (boughtCell party) 0) coefficient tolerance ⌝ }
     ensures { λ r. ⌜ r ≡ isDetected (balanceOf dayAhead coefficient tolerance (tallyAt (now (table .entry)) party) (getD (now (table .entry)) (boughtCell party) 0)) ⌝ }
 {

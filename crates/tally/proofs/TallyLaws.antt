@@ -19,7 +19,7 @@ use Rattle.rules.specs.Words.{valueAt, typeBits, decode, entryOk, readEntries, 
 use Rattle.rules.specs.Balance.{counted, countedTo, sumOf, boughtBy, tallyOf, volumeTypes, noTally, sumCount, sumPlace}
 use Rattle.rules.specs.declared.Tally.{Tally}
 use Rattle.rules.specs.declared.TallyAnswer.{TallyAnswer}
-use Rattle.rules.proofs.WordLaws.{legal-bounds, entry-facts, bits-back, word-of, within-true}
+use Rattle.rules.proofs.WordLaws.{legal-bounds, entry-facts, bits-back, word-of}
 use Rattle.rules.proofs.SumOrder.{forTests, toTests, counts-for, counts-to}
 use Rattle.rules.proofs.SumPlaces.{typeAt, type-at, place-of, one-type}
 use Rattle.rules.proofs.Limits.{legal-amount, volume-limit, bought-sum}
@@ -184,7 +184,6 @@ module _ (p d : ℕ) {a b w : ℕ} {r : Record} (f : IsRead a b w r) where
           let s = and-split (eqb (key r .party) p) (counts d (r .label)) e in
           let x : key r .party ≡ p = eqb-true _ _ (s .0) in
           let c = counts-facts d (r .label) (s .1) in
-          let v = within-true 1 16 (key r .type) (c .volume) in
           holds-every (ownTests p d a b w) (eq-eqb b (536870912 + d) (omega arith), (eq-eqb a (268435456 + p) (omega arith), (lt-ltb w 822083584 (omega arith), (rw type-is (c .volume), (rw (ne-eqb w 805306374 λ q. export-not (key r) (c .no-export) (omega arith) (omega arith)), tt)))))
 
   -- a sale to the party

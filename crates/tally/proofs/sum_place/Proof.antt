@@ -1,5 +1,4 @@
 -- `tally::sum_place` meets its contract. Assumes nothing.
-use native.Mathlib.Omega.{arith}
 use Rattle.rules.proofs.WordLaws.{within-true}
 use borrow.Author.Needs.{needs}
 use Rattle.tally.proofs.sum_place.Statement.{statement}

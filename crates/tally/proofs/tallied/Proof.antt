@@ -1,5 +1,5 @@
 -- `tally::tallied` meets its contract. The loop's invariant: the tally and B of the entries passed. Assumes nothing.
-use mathlib.Core.Path.{refl, sym, _∙_}
+use mathlib.Core.Path.{sym, _∙_}
 use mathlib.Core.Logic.{⊎-elim}
 use Prim.Native.Nat.{_<_, _-_, _*_, _+_, _%_}
 use native.Mathlib.Omega.{arith}

@@ -1,8 +1,6 @@
 -- `debts::window::window_of` meets its contract. The loop's invariant: the table is that of the entries passed. Assumes nothing.
-use mathlib.Core.Path.{_≡_, refl, _∙_}
-use Prim.Native.Nat.{_-_, _<_}
-use native.Mathlib.Omega.{arith}
-use Rattle.rules.specs.Words.{countOf}
+use mathlib.Core.Path.{refl}
+use Prim.Native.Nat.{_-_}
 use Rattle.rules.proofs.WordLaws.{book-facts, legal-bounds}
 use Rattle.cells.specs.Cells.{added, blank, filled}
 use Rattle.cells.proofs.ScanLaws.{Scanned, readAt, scan-start, scan-more, scan-done, scan-within, scan-below, legal-at}

@@ -1,5 +1,5 @@
 -- `flags::sums::add_entry` meets its contract. Assumes nothing.
-use mathlib.Core.Path.{_≡_, sym, _∙_}
+use mathlib.Core.Path.{sym}
 use native.Mathlib.Omega.{arith}
 use Rattle.words.proofs.Ladder.{passed, failed}
 use Rattle.cells.specs.Cells.{recordRead}

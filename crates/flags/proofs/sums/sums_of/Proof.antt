@@ -1,19 +1,21 @@
 -- `flags::sums::sums_of` meets its contract. The loop's invariant: each sum passed is the party's cell. Assumes nothing.
-use mathlib.Core.Path.{_≡_, refl, sym, _∙_}
+use mathlib.Core.Path.{_≡_, refl, _∙_}
 use Prim.Native.Nat.{ℕ, _+_, _-_, _*_, _≤_, _<_}
 use native.Mathlib.Omega.{arith}
 use lib.ListN.{length, getD, length-set}
 use Rattle.numbers.proofs.ListLaws.{set-more}
+use Rattle.rules.specs.Balance.{sumCount}
+use Rattle.flags.specs.Tables.{partyCells}
 use Rattle.flags.proofs.TableLaws.{cells-read}
 use borrow.Author.Needs.{needs}
 use Rattle.flags.proofs.sums.sums_of.Statement.{statement}
 use Rattle.flags.proofs.sums.sums_of.Tie as tie
 
 abbrev Inv-loop : tie.InvT-loop
-Inv-loop table party sums₀ k₀ sums k = (k ≤ 16) × (length sums ≡ 16) × ((j : ℕ) → j < k → getD sums j 0 ≡ getD table (17 * party + j) 0)
+Inv-loop table party sums₀ k₀ sums k = (k ≤ sumCount) × (length sums ≡ sumCount) × ((j : ℕ) → j < k → getD sums j 0 ≡ getD table (partyCells * party + j) 0)
 
 abbrev μ-loop : tie.MeasureT-loop
-μ-loop table party sums₀ k₀ sums k = 16 - k
+μ-loop table party sums₀ k₀ sums k = sumCount - k
 
 loop-holds : tie.Need-loop-holds Inv-loop μ-loop
 loop-holds c = (search needs, refl, λ j h. absurd (omega arith))
@@ -48,7 +50,7 @@ loop-again c =
     let a = l .before .args in (
       omega arith,
       length-set (l .loop .sums) (l .loop .k) _ ∙ l .loop .inv .1,
-      set-more 0 (λ j. getD (a .table .now) (17 * a .party + j) 0) (l .loop .sums) (l .loop .k) (rw (l .loop .inv .1) (c .before .loop-test .taken)) (l .loop .inv .2),
+      set-more 0 (λ j. getD (a .table .now) (partyCells * a .party + j) 0) (l .loop .sums) (l .loop .k) (rw (l .loop .inv .1) (c .before .loop-test .taken)) (l .loop .inv .2),
     )
 
 returns : tie.Need-returns Inv-loop μ-loop
