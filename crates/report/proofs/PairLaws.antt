@@ -1,5 +1,5 @@
 -- How many parties and days a file names: at most one for each two words of it. Assumes nothing.
-use mathlib.Core.Path.{_≡_, refl, ap₂}
+use mathlib.Core.Path.{_≡_, refl}
 use mathlib.Core.Logic.{inl, inr}
 use mathlib.Core.Bool.{Bool, true, false, cond, _&&_, _||_}
 use mathlib.Core.List.{List, [], _∷_}
@@ -60,35 +60,6 @@ pairs n j m k t = sumFrom (λ p. sumFrom (λ d. one (t p d)) m k) n j
 abbrev point : ℕ → ℕ → ℕ → ℕ → Bool
 point q e p d = eqb q p && eqb e d
 
-module _ (n j m k : ℕ) where
-  -- each pair that passes passes one of two tests
-  pairs-split : (t u v : ℕ → ℕ → Bool) → ((p d : ℕ) → one (t p d) ≤ one (u p d) + one (v p d)) → pairs n j m k t ≤ pairs n j m k u + pairs n j m k v
-  unfolding pairs
-  pairs-split t u v h =
-      rw (← from-add (λ p. sumFrom (λ d. one (u p d)) m k) (λ p. sumFrom (λ d. one (v p d)) m k) n j)
-      (from-le _ _ n j (λ p. rw (← from-add (λ d. one (u p d)) (λ d. one (v p d)) m k) (from-le _ _ m k (h p))))
-
-  pairs-none : pairs n j m k (λ p d. false) ≡ 0
-  unfolding pairs
-  pairs-none = from-none _ n j (λ p l. from-none _ m k (λ d x. refl))
-
-  one-pair : (q e : ℕ) → pairs n j m k (point q e) ≤ 1
-  unfolding pairs
-  one-pair q e = le-trans (from-le _ (λ p. one (eqb q p)) n j (λ p. go p (eqb q p))) (from-one q n j)
-    where
-      go : (p : ℕ) (b : Bool) → sumFrom (λ d. one (b && eqb e d)) m k ≤ one b
-      go p true = from-one e m k
-      go p false = rw (from-none (λ d. 0) m k (λ d l. refl)) zero-le
-
--- a line names the party of its block and its counterparty, of which the block has named the first
-line-names : (P D Z C R : Bool) → one ((P && D) || ((D && (P || (Z && C))) || R)) ≤ one (C && D) + one ((P && D) || R)
-line-names true true Z C R = omega arith
-line-names true false Z C R = omega arith
-line-names false true true true R = omega arith
-line-names false true true false R = omega arith
-line-names false true false C R = omega arith
-line-names false false Z C R = omega arith
-
 or-names : (a b : Bool) → one (a || b) ≤ one a + one b
 or-names true b = omega arith
 or-names false b = omega arith
@@ -98,55 +69,89 @@ or-more true true = omega arith
 or-more true false = omega arith
 or-more false b = le-refl (one b)
 
--- the pairs that a block's head and what follows name
-unfoldable after : ℕ → ℕ → ℕ → List ℕ → ℕ → ℕ → Bool
-after n q e ws p d = point q e p d || any (itemNames p d) (itemsFrom n q e ws)
+-- a line names the party of its block, which the block's head has named, and its counterparty
+line-names : (P D Z C R : Bool) → one ((P && D) || ((D && (P || (Z && C))) || R)) ≤ one (C && D) + one ((P && D) || R)
+line-names true true Z C R = omega arith
+line-names true false Z C R = omega arith
+line-names false true true true R = omega arith
+line-names false true true false R = omega arith
+line-names false true false C R = omega arith
+line-names false false Z C R = omega arith
 
-head-names : (n q e : ℕ) (is : List Item) (p d : ℕ) → one (any (itemNames p d) (headItem n q e is)) ≤ one (point q e p d || any (itemNames p d) is)
-unfolding any itemNames
-head-names zero q e is p d = le-refl _
-head-names (suc n) q e is p d = or-more (point q e p d) (any (itemNames p d) is)
+-- the head of a block, without lines or with them, and what follows
+unfoldable after : ℕ → ℕ → ℕ → List ℕ → ℕ → ℕ → Bool
+after lines q e ws p d = point q e p d || any (itemNames p d) (itemsFrom lines q e ws)
+
+head-names : (lines q e : ℕ) (ws : List ℕ) (p d : ℕ) → one (any (itemNames p d) (headItem lines q e (itemsFrom lines q e ws))) ≤ one (after lines q e ws p d)
+unfolding after any itemNames
+head-names zero q e ws p d = le-refl _
+head-names (suc l) q e ws p d = or-more (point q e p d) (any (itemNames p d) (itemsFrom (suc l) q e ws))
 
 module _ (n j m k : ℕ) where
-  -- where no item follows, the head alone
-  alone : (q e : ℕ) (ws : List ℕ) → 2 * pairs n j m k (λ p d. point q e p d || false) ≤ 2 + length ws
-  alone q e ws =
-      omega (arith, pairs-split n j m k (λ p d. point q e p d || false) (point q e) (λ p d. false) (λ p d. or-names (point q e p d) false), one-pair n j m k q e, pairs-none n j m k)
+  abbrev count : (ℕ → ℕ → Bool) → ℕ
+  count t = pairs n j m k t
 
-  after-named : (lines q e : ℕ) (ws : List ℕ) → 2 * pairs n j m k (after lines q e ws) ≤ 2 + length ws
+  count-le : (t u : ℕ → ℕ → Bool) → ((p d : ℕ) → one (t p d) ≤ one (u p d)) → count t ≤ count u
+  unfolding pairs
+  count-le t u h = from-le _ _ n j (λ p. from-le _ _ m k (h p))
+
+  -- each pair that passes a test passes one of two
+  count-split : (t u v : ℕ → ℕ → Bool) → ((p d : ℕ) → one (t p d) ≤ one (u p d) + one (v p d)) → count t ≤ count u + count v
+  unfolding pairs
+  count-split t u v h =
+      rw (← from-add (λ p. sumFrom (λ d. one (u p d)) m k) (λ p. sumFrom (λ d. one (v p d)) m k) n j)
+      (from-le _ _ n j (λ p. rw (← from-add (λ d. one (u p d)) (λ d. one (v p d)) m k) (from-le _ _ m k (h p))))
+
+  count-none : count (λ p d. false) ≡ 0
+  unfolding pairs
+  count-none = from-none _ n j (λ p l. from-none _ m k (λ d x. refl))
+
+  count-one : (q e : ℕ) → count (point q e) ≤ 1
+  unfolding pairs
+  count-one q e = le-trans (from-le _ (λ p. one (eqb q p)) n j (λ p. go (eqb q p))) (from-one q n j)
+    where
+      go : (b : Bool) → sumFrom (λ d. one (b && eqb e d)) m k ≤ one b
+      go true = from-one e m k
+      go false = rw (from-none (λ d. 0) m k (λ d l. refl)) zero-le
+
+  -- a head that no item follows
+  head-alone : (q e : ℕ) (ws : List ℕ) → 2 * count (λ p d. point q e p d || false) ≤ 2 + length ws
+  head-alone q e ws =
+      omega (arith, count-split (λ p d. point q e p d || false) (point q e) (λ p d. false) (λ p d. or-names (point q e p d) false), count-one q e, count-none)
+
+  -- a head is two words and names one pair, a line is three and names one more
+  after-head : (lines q e : ℕ) (ws : List ℕ) → 2 * count (after lines q e ws) ≤ 2 + length ws
   unfolding after any itemsFrom itemNames
-  after-named zero q e [] = alone q e []
-  after-named zero q e (w ∷ []) = alone q e (w ∷ [])
-  after-named zero q e (w ∷ x ∷ ws) =
-      let head = after-named (linesIn w) (partyIn w) (valueOf x) ws in
+  after-head zero q e [] = head-alone q e []
+  after-head zero q e (w ∷ []) = head-alone q e (w ∷ [])
+  after-head zero q e (w ∷ x ∷ ws) =
       omega (
         arith,
-        pairs-split n j m k (after zero q e (w ∷ x ∷ ws)) (point q e) (after (linesIn w) (partyIn w) (valueOf x) ws)
-            (λ p d. le-trans (or-names (point q e p d) _) (add-le-add (le-refl _) (head-names (linesIn w) (partyIn w) (valueOf x) (itemsFrom (linesIn w) (partyIn w) (valueOf x) ws) p d))),
-        one-pair n j m k q e,
-        head,
+        count-split (after zero q e (w ∷ x ∷ ws)) (point q e) (after (linesIn w) (partyIn w) (valueOf x) ws)
+            (λ p d. le-trans (or-names (point q e p d) _) (add-le-add (le-refl _) (head-names (linesIn w) (partyIn w) (valueOf x) ws p d))),
+        count-one q e,
+        after-head (linesIn w) (partyIn w) (valueOf x) ws,
       )
-  after-named (suc l) q e [] = alone q e []
-  after-named (suc l) q e (w ∷ []) = alone q e (w ∷ [])
-  after-named (suc l) q e (w ∷ x ∷ []) = alone q e (w ∷ x ∷ [])
-  after-named (suc l) q e (w ∷ x ∷ y ∷ ws) =
+  after-head (suc l) q e [] = head-alone q e []
+  after-head (suc l) q e (w ∷ []) = head-alone q e (w ∷ [])
+  after-head (suc l) q e (w ∷ x ∷ []) = head-alone q e (w ∷ x ∷ [])
+  after-head (suc l) q e (w ∷ x ∷ y ∷ ws) =
       let c = valueOf w / 256 in
       omega (
         arith,
-        pairs-split n j m k (after (suc l) q e (w ∷ x ∷ y ∷ ws)) (point c e) (after l q e ws)
+        count-split (after (suc l) q e (w ∷ x ∷ y ∷ ws)) (point c e) (after l q e ws)
             (λ p d. line-names (eqb q p) (eqb e d) (ltb 0 c) (eqb c p) (any (itemNames p d) (itemsFrom l q e ws))),
-        one-pair n j m k c e,
-        after-named l q e ws,
+        count-one c e,
+        after-head l q e ws,
       )
 
-  -- a head is two words and a line is three
   pub named : (ws : List ℕ) → 2 * pairs n j m k (λ p d. any (itemNames p d) (itemsFrom 0 0 0 ws)) ≤ length ws
-  unfolding after any itemsFrom pairs
-  named [] = omega (arith, pairs-none n j m k)
-  named (w ∷ []) = omega (arith, pairs-none n j m k)
+  unfolding any itemsFrom
+  named [] = omega (arith, count-none)
+  named (w ∷ []) = omega (arith, count-none)
   named (w ∷ x ∷ ws) =
       omega (
         arith,
-        from-le _ _ n j (λ p. from-le _ _ m k (head-names (linesIn w) (partyIn w) (valueOf x) (itemsFrom (linesIn w) (partyIn w) (valueOf x) ws) p)),
-        after-named (linesIn w) (partyIn w) (valueOf x) ws,
+        count-le (λ p d. any (itemNames p d) (itemsFrom 0 0 0 (w ∷ x ∷ ws))) (after (linesIn w) (partyIn w) (valueOf x) ws) (head-names (linesIn w) (partyIn w) (valueOf x) ws),
+        after-head (linesIn w) (partyIn w) (valueOf x) ws,
       )

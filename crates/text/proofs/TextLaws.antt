@@ -144,16 +144,20 @@ pub wrote-nothing : (out : List ℕ) (at : ℕ) → at ≤ length out → Wrote 
 unfolding over
 wrote-nothing out at h = record { place = omega arith; bytes = refl }
 
--- how long a number's text is: a number below a power of ten, any number, and any signed number
+-- how long a number's text is: one below a power of ten, any number, and any signed number
+digit-more : (n x : ℕ) → length (digits (suc n) x) ≤ length (digits n (x / 10)) + 1
+digit-more n x =
+    elim (below-or-above x 10) [
+      | inl h ↦ rw (one-digit n x h) (omega arith)
+      | inr h ↦ rw (digits-step n x h, length-append (digits n (x / 10)) ((48 + x % 10) ∷ [])) (omega arith)
+    ]
+
 few-digits : (n k x : ℕ) → x < 10 ^ suc k → length (digits n x) ≤ suc k
 unfolding digits
 few-digits zero k x h = zero-le
 few-digits (suc n) zero x h = rw (one-digit n x h) (omega arith)
 few-digits (suc n) (suc k) x h =
-    elim (below-or-above x 10) [
-      | inl l ↦ rw (one-digit n x l) (omega arith)
-      | inr l ↦ rw (digits-step n x l, length-append (digits n (x / 10)) _) (omega (arith, few-digits n k (x / 10) (tenth (10 ^ suc k) x (rw pow-suc at h))))
-    ]
+    omega (arith, digit-more n x, few-digits n k (x / 10) (tenth (10 ^ suc k) x (rw pow-suc at h)))
 
 pub decimal-below : (k x : ℕ) → x < 10 ^ suc k → length (decimal x) ≤ suc k
 unfolding decimal
@@ -162,11 +166,7 @@ decimal-below k x h = few-digits 20 k x h
 all-digits : (n x : ℕ) → length (digits n x) ≤ n
 unfolding digits
 all-digits zero x = zero-le
-all-digits (suc n) x =
-    elim (below-or-above x 10) [
-      | inl l ↦ rw (one-digit n x l) (omega arith)
-      | inr l ↦ rw (digits-step n x l, length-append (digits n (x / 10)) _) (omega (arith, all-digits n (x / 10)))
-    ]
+all-digits (suc n) x = omega (arith, digit-more n x, all-digits n (x / 10))
 
 pub decimal-most : (x : ℕ) → length (decimal x) ≤ 20
 unfolding decimal
