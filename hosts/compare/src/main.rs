@@ -5,9 +5,12 @@ mod draw;
 mod engine;
 mod fault;
 mod guard;
+mod lent;
+mod met;
 mod report;
 mod rng;
 mod rounds;
+mod sizes;
 #[cfg(test)]
 mod tests;
 mod worked;

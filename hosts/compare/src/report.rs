@@ -1,6 +1,7 @@
 //! Counts of what was compared, a line for each call.
 
-use crate::call::{met, Answer, Call};
+use crate::call::{Answer, Call};
+use crate::met::met;
 use std::collections::BTreeMap;
 use std::fmt;
 

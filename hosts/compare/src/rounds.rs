@@ -1,9 +1,10 @@
 //! The rounds of one call, and of lists of calls.
 
-use crate::call::{shown, Call, Lent};
+use crate::call::{shown, Call};
 use crate::draw;
 use crate::engine::Engine;
 use crate::fault;
+use crate::lent::Lent;
 use crate::report::Counts;
 use crate::rng::Rng;
 use std::collections::BTreeMap;

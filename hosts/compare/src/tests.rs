@@ -1,9 +1,10 @@
 //! The harness itself: no difference where there is none, and every slip below
 //! is found.
 
-use crate::call::{Call, Lent, NAMES};
+use crate::call::{Call, NAMES};
 use crate::engine::{bytes, words, Engine, Post, Second, Tables};
 use crate::fault;
+use crate::lent::Lent;
 use crate::rng::Rng;
 use crate::rounds::{lists, single, Plan};
 use crate::worked::figures;

@@ -1,9 +1,10 @@
 //! Day files.
 
+use super::odd;
 use super::world::{some_mark, Taste, World};
-use super::{odd, MOST_FILE};
 use crate::engine::bytes;
 use crate::rng::Rng;
+use crate::sizes::MOST_FILE;
 use second::{Book, BILATERAL_SALE, LAST_DAY, LAST_PARTY, MARK, MOST_MONEY, MOST_VOLUME};
 
 struct Line {

@@ -17,13 +17,8 @@ use crate::rng::Rng;
 use books::{book, chain, damage, lent, lent_with, seen};
 use figures::{case, ceiling, month};
 use files::{file, long_file};
-use second::{Book, LAST_DAY, MOST_COEFFICIENT, MOST_ENTRIES, MOST_FILE_BYTES, MOST_TOLERANCE};
+use second::{Book, LAST_DAY, MOST_COEFFICIENT, MOST_ENTRIES, MOST_TOLERANCE};
 use world::{days_before, some_mark, Taste, World};
-
-/// Most bytes that are ever lent as a book, a file or a month's table.
-pub const MOST_BOOK: usize = 4 * (3 + 5 * MOST_ENTRIES + 512);
-pub const MOST_FILE: usize = MOST_FILE_BYTES + 64;
-pub const MOST_TABLE: usize = 4 * (750 * 66);
 
 /// A figure at or past the edges of 0 to limit, or one that looks like a legal
 /// figure in its low bits.
