@@ -143,6 +143,11 @@ balanceFigures =
     ∷ eqb (sumOf 1 9000 17 others) 2
     ∷ eqb (sumOf 1 9000 18 others) 4
     ∷ eqb (boughtBy 1 9000 (of 2 7 1 5 ∷ of 2 5 1 6 ∷ of 2 6 1 9 ∷ [])) 9
+    -- another day: a sale of 512, a purchase of 2,048; another party: S 4,096 + 16,384, C 8,192; R 200
+    ∷ eqb (sumOf 1 8999 1 others) 512
+    ∷ eqb (boughtBy 1 8999 others) 2048
+    ∷ isSigned (balanceAnswer dayAhead (usedWords 200 0 others) 1 8999 .balance) (minus 358400)
+    ∷ isSigned (balanceAnswer delivery (usedWords 200 0 others) 2 9000 .balance) (pos 409600)
     -- A = B + the larger of tender and import
     ∷ eqb (acquired (tallyOfB 30 20) 5) 35
     ∷ eqb (acquired (tallyOfB 20 30) 5) 35

@@ -93,6 +93,8 @@ monthStepFigures =
     ∷ monthRefused (lengths 2 6 3 3) 11
     ∷ monthRefused (lengths 2 6 3 6) 11
     ∷ monthRefused (lengths 2 1 0 2) 11
+    ∷ monthRefused (lengths 2 3 3 1) 11
+    ∷ monthRefused (lengths 1 6 3 2) 11
     -- 11 before 12
     ∷ monthRefused (lengths 2 65 65 2) 11
     ∷ monthRefused (tables (1000001 ∷ []) []) 11
