@@ -68,9 +68,9 @@ refuses c = refusedBy 12 bought c
 abbrev third : ℕ → ℤ → Case
 third price volume = withUsed (withMonths filled (dear ∷ middle ∷ month price volume ∷ [])) 3
 
--- n month answers used, the last of the three out of range
-abbrev wildFrom : ℕ → List Month → Case
-wildFrom n ms = withUsed (withMonths filled ms) n
+-- these month answers, of which n are used
+abbrev usedOf : ℕ → List Month → Case
+usedOf n ms = withUsed (withMonths filled ms) n
 
 abbrev wildPrice : Month
 wildPrice = month 1000001 (pos 0)
@@ -109,12 +109,12 @@ caseRanges =
     ∷ refuses (third 0 (minus 14900000001))
     ∷ refuses (third 0 (pos 14900000001))
     -- month answers only if used
-    ∷ takes (wildFrom 0 (wildPrice ∷ wildPrice ∷ wildPrice ∷ []))
-    ∷ refuses (wildFrom 1 (wildPrice ∷ low ∷ low ∷ []))
-    ∷ takes (wildFrom 1 (low ∷ wildPrice ∷ wildPrice ∷ []))
-    ∷ refuses (wildFrom 2 (low ∷ wildPrice ∷ low ∷ []))
-    ∷ takes (wildFrom 2 (low ∷ low ∷ month 0 (minus 14900000001) ∷ []))
-    ∷ takes (wildFrom 2 (low ∷ low ∷ month 0 (pos 14900000001) ∷ []))
+    ∷ takes (usedOf 0 (wildPrice ∷ wildPrice ∷ wildPrice ∷ []))
+    ∷ refuses (usedOf 1 (wildPrice ∷ low ∷ low ∷ []))
+    ∷ takes (usedOf 1 (low ∷ wildPrice ∷ wildPrice ∷ []))
+    ∷ refuses (usedOf 2 (low ∷ wildPrice ∷ low ∷ []))
+    ∷ takes (usedOf 2 (low ∷ low ∷ month 0 (minus 14900000001) ∷ []))
+    ∷ takes (usedOf 2 (low ∷ low ∷ month 0 (pos 14900000001) ∷ []))
     -- RK to 500, RT to 10^15, YT to 10^14, M 1 to 10,000, T 0 to M
     ∷ takes (withRk filled 500)
     ∷ refuses (withRk filled 501)
