@@ -9,7 +9,7 @@ use lib.Dec.{T as Holds}
 use mir.Syntax.{erased}
 use mir.Val.{Val, WT, hasTy}
 use base.Logic.{ent}
-use base.Fml.{Lft, Fml}
+use base.Fml.{Lft}
 use prog.Wp.{Heap}
 use ghost.Atoms.{Atoms, sem}
 use types.Kit.{Given, ‵, _⊛_, given, _$_, _∵_, !, qed, by, move, drop, use1, split, learn, fjoin, done}
@@ -24,6 +24,8 @@ use Rattle.fileform.specs.declared.reader.Reader.{Reader}
 use Rattle.fileform.specs.declared.reader.Taken.{Taken}
 use Rattle.fileform.specs.declared.reader.Piece.{Piece}
 use Rattle.fileform.specs.declared.reader.TakenPiece.{TakenPiece}
+use Rattle.fileform.specs.declared.walk.Form.{Form}
+use Rattle.fileform.specs.declared.walk.Pass.{Pass}
 use Rattle.fileform.proofs.reader.Reader as T
 use Rattle.fileform.proofs.reader.Reader.Laws as T′
 use Rattle.fileform.proofs.reader.Taken as G
@@ -32,6 +34,10 @@ use Rattle.fileform.proofs.reader.Piece as P
 use Rattle.fileform.proofs.reader.Piece.Laws as P′
 use Rattle.fileform.proofs.reader.TakenPiece as Q
 use Rattle.fileform.proofs.reader.TakenPiece.Laws as Q′
+use Rattle.fileform.proofs.walk.Form as Fm
+use Rattle.fileform.proofs.walk.Form.Laws as Fm′
+use Rattle.fileform.proofs.walk.Pass as S
+use Rattle.fileform.proofs.walk.Pass.Laws as S′
 
 -- the lifetime of a signature, and as a local of a body has it
 abbrev pub α : Lft → NamedLft
@@ -50,6 +56,9 @@ TakenT κ = G.the-row (α κ)
 abbrev pub TakenPieceT : Lft → RattleType
 TakenPieceT κ = Q.the-row (α κ)
 
+abbrev pub PassT : Lft → RattleType
+PassT κ = S.the-row (α κ)
+
 -- that the words of a head or a line fit
 pub record Fits (p : Piece) : Type 0 where
   pub first : p .first < 2 ^ 32
@@ -60,6 +69,10 @@ pub record Fits (p : Piece) : Type 0 where
 pub piece-is : (p : Piece) → Fits p → Is P.the-row p (P′.lowered p ∷ [])
 piece-is p f = LL.owes P.the-type P′.the-laws p (refl, (refl, ((refl, f .first), ((refl, f .second), ((refl, f .third), tt)))))
 
+-- how a file's form stands, and its machine values
+pub form-is : (f : Form) → f .left < 2 ^ 32 → Is Fm.the-row f (Fm′.lowered f ∷ [])
+form-is f fits = LL.owes Fm.the-type Fm′.the-laws f ((refl, fits), (refl, (refl, tt)))
+
 pub zero-fits : 0 < 2 ^ 32
 zero-fits = omega arith
 
@@ -67,6 +80,9 @@ module _ {M : Type 1} (𝓤 : URA M) (H : Heap 𝓤) (A : Atoms 𝓤) (W : Given
   -- what a local holds has the local's type, written out
   pub reader-typed : (r : Reader) (u : Val) → Is (ReaderT κ) r (u ∷ []) → Holds (hasTy (T′.mir erased) u) × WT u
   reader-typed r u is = LL.lawful (T.the-type (αᵉ κ)) (T′.the-laws (αᵉ κ)) 𝓤 H A W .typed r _ is .0
+
+  pub reader-told : (r : Reader) (u : Val) → Is (ReaderT κ) r (u ∷ []) → Holds (hasTy (T′.mir erased) (T′.lowered r)) × WT (T′.lowered r)
+  reader-told r u is = reader-typed r (T′.lowered r) (LL.owes (T.the-type (α κ)) (T′.the-laws (α κ)) r (LL.owed (T.the-type (α κ)) (T′.the-laws (α κ)) r _ is))
 
   pub taken-typed : (a : Taken) (u : Val) → Is (TakenT κ) a (u ∷ []) → Holds (hasTy (G′.mir erased) (G′.lowered a)) × WT (G′.lowered a)
   taken-typed a u is = LL.lawful (G.the-type (αᵉ κ)) (G′.the-laws (αᵉ κ)) 𝓤 H A W .typed a _ (LL.owes (G.the-type (α κ)) (G′.the-laws (α κ)) a (LL.owed (G.the-type (α κ)) (G′.the-laws (α κ)) a _ is)) .0
@@ -97,3 +113,21 @@ module _ {M : Type 1} (𝓤 : URA M) (H : Heap 𝓤) (A : Atoms 𝓤) (W : Given
       qed W (‵ (ReaderT κ .own (t .reader) (T′.lowered (t .reader) ∷ [])) ∷ []) ∵
       nothing ! $ owned ! P.the-row (Is P.the-row) (LL.makes P.the-type P′.the-plain 𝓤 H A) (t .piece) (P′.lowered (t .piece) ∷ []) (piece-is (t .piece) f) $
       fjoin ! $ move ! (1 ∷ 0 ∷ []) $ fjoin ! $ by ! (own-shut 𝓤 H A W (Q.the-type (α κ)) (Q′.the-laws (α κ)) (t .reader, (t .piece, tt)))
+
+  -- the same of a pass: its type, its reader, and the reader with how the form stands
+  pub pass-typed : (p : Pass) (u : Val) → Is (PassT κ) p (u ∷ []) → Holds (hasTy (S′.mir erased) (S′.lowered p)) × WT (S′.lowered p)
+  pass-typed p u is = LL.lawful (S.the-type (αᵉ κ)) (S′.the-laws (αᵉ κ)) 𝓤 H A W .typed p _ (LL.owes (S.the-type (α κ)) (S′.the-laws (α κ)) p (LL.owed (S.the-type (α κ)) (S′.the-laws (α κ)) p _ is)) .0
+
+  pub reader-passed : (p : Pass) (u : Val) → ent 𝓤 (sem 𝓤 H A (PassT κ .own p (u ∷ []))) (sem 𝓤 H A (ReaderT κ .own (p .reader) (T′.lowered (p .reader) ∷ [])))
+  reader-passed p u =
+      let E = S.the-type (α κ) in
+      let L = S′.the-laws (α κ) in
+      qed W (‵ (PassT κ .own p (u ∷ [])) ∷ []) ∵
+      use1 W (given (u ∷ [] ≡ S′.lowered p ∷ []) (‵ (all-own (E .parts) L (p .reader, (p .form, tt))))) (own-open 𝓤 H A W E L (p .reader, (p .form, tt)) u) $ learn ! (λ _.
+      use1 W (‵ (ownAt (E .parts) L 0 (p .reader)) ⊛ ‵ (rest (E .parts) L 0 (p .reader, (p .form, tt)))) (own-out 𝓤 H A W (E .parts) L 0 (p .reader, (p .form, tt))) $ split ! $ move ! (1 ∷ []) $ drop ! $ done !)
+
+  pub pass-held : (p : Pass) → p .form .left < 2 ^ 32 → ent 𝓤 (sem 𝓤 H A (ReaderT κ .own (p .reader) (T′.lowered (p .reader) ∷ []))) (sem 𝓤 H A (PassT κ .own p (S′.lowered p ∷ [])))
+  pass-held p f =
+      qed W (‵ (ReaderT κ .own (p .reader) (T′.lowered (p .reader) ∷ [])) ∷ []) ∵
+      nothing ! $ owned ! Fm.the-row (Is Fm.the-row) (LL.makes Fm.the-type Fm′.the-plain 𝓤 H A) (p .form) (Fm′.lowered (p .form) ∷ []) (form-is (p .form) f) $
+      fjoin ! $ move ! (1 ∷ 0 ∷ []) $ fjoin ! $ by ! (own-shut 𝓤 H A W (S.the-type (α κ)) (S′.the-laws (α κ)) (p .reader, (p .form, tt)))

@@ -3,3 +3,4 @@ pub mod WalkLaws
 pub mod HeldLaws
 pub mod CallLaws
 pub mod RunLaws
+pub mod PassLaws

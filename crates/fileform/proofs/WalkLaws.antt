@@ -1,22 +1,22 @@
 -- Laws of a walk of a file's bytes. Assumes nothing.
 use mathlib.Core.Path.{_≡_, refl, sym, _∙_}
 use mathlib.Core.Logic.{inl, inr}
-use mathlib.Core.Bool.{Bool, true, false, _&&_, _||_, or-assoc}
+use mathlib.Core.Bool.{Bool, true, false, _||_, or-assoc}
 use mathlib.Core.List.{List, [], _∷_, _++_}
 use Prim.Native.Nat.{ℕ, zero, suc, _+_, _-_, _≤_, _<_}
 use native.Mathlib.Numerals.{add-one, add-two, add-three, add-four}
 use native.Mathlib.Omega.{arith}
-use lib.Dec.{eqb, ltb}
+use lib.Dec.{eqb}
 use lib.ListN.{length, getD, drop, length-drop}
 use lib.Seq.{drop-cons}
-use borrow.Author.Tests.{leb-true, leb-false, le-leb, lt-ltb, le-ltb, eq-eqb, ne-eqb}
+use borrow.Author.Tests.{leb-true, leb-false, le-leb, eq-eqb, ne-eqb}
 use Rattle.numbers.proofs.TestLaws.{below-or-above}
-use Rattle.rules.specs.DayFile.{Item, line, emptyBlock, headItem, linesIn, isShaped, itemsFrom, wordsOf}
+use Rattle.rules.specs.DayFile.{Item, emptyBlock, headItem, linesIn, itemsFrom, wordsOf}
 use Rattle.fileform.specs.declared.Cursor.{Cursor}
 use Rattle.fileform.specs.declared.Line.{Line}
 use Rattle.fileform.specs.Read.{foundAt, headFrom, lineFrom}
 use Rattle.coding.specs.Coding.{wordAt}
-use Rattle.fileform.specs.Walk.{isMore, headAt, pastStep, lineAt, lineItem, itemsAt, isStepOk, leftItems, leftShaped}
+use Rattle.fileform.specs.Walk.{isMore, headAt, pastStep, lineAt, lineItem, itemsAt, leftItems}
 
 -- the bytes that a whole head or line has
 module _ (bs : List ℕ) (c : Cursor) (more : isMore bs c ≡ true) where
@@ -157,47 +157,3 @@ walk-less bs c e y p = rw p (omega (arith, past-within bs c (sym e ∙ y)))
 -- a table of flags in a walk: one entry more in the table, one fewer to come
 pub table-step : (a m rest : Bool) {whole before after : Bool} → whole ≡ a || before → before ≡ m || rest → after ≡ a || m → whole ≡ after || rest
 table-step a m rest w b e = w ∙ rw (b, e, or-assoc a m rest)
-
--- the shape of what is left, by one head or line
-pub shaped-step : (bs : List ℕ) (c : Cursor) → isMore bs c ≡ true → leftShaped bs c ≡ isStepOk bs c && leftShaped bs (pastStep bs c)
-unfolding isShaped isStepOk pastStep headAt
-shaped-step bs c more = go (c .left) refl
-  where
-    go : (n : ℕ) → c .left ≡ n → leftShaped bs c ≡ isStepOk bs c && leftShaped bs (pastStep bs c)
-    go zero e =
-        let h = head-whole bs c more e in
-        let f : c .at + 8 ≡ c .at + 4 + 4 = omega arith in
-        rw (e, f, words-cons bs (c .at) (omega arith), words-cons bs (c .at + 4) (omega arith))
-    go (suc n) e =
-        let h = line-whole bs c more (λ z. absurd (omega arith)) in
-        let f : c .at + 12 ≡ c .at + 8 + 4 = omega arith in
-        let g : c .at + 8 ≡ c .at + 4 + 4 = omega arith in
-        let k : suc n - 1 ≡ n = omega arith in
-        rw (e, some n, k, f, g, words-cons bs (c .at) (omega arith), words-cons bs (c .at + 4) (omega arith), words-cons bs (c .at + 4 + 4) (omega arith))
-
--- a file may end only where a block has ended
-pub shaped-end : (bs : List ℕ) (c : Cursor) → isMore bs c ≡ false → leftShaped bs c ≡ eqb (c .left) 0 && ltb (length bs - c .at) 4
-unfolding isMore isShaped
-shaped-end bs c more = go (c .left) refl
-  where
-    at-block : length bs - c .at < 8 → isShaped 0 (wordsOf (drop (c .at) bs)) ≡ ltb (length bs - c .at) 4
-    at-block h =
-        elim (below-or-above (length bs - c .at) 4) [
-          | inl l ↦ rw (words-end bs (c .at) l, lt-ltb _ _ l)
-          | inr l ↦ rw (words-cons bs (c .at) (omega arith), words-end bs (c .at + 4) (omega arith), le-ltb _ _ l)
-        ]
-
-    at-line : (n : ℕ) → length bs - c .at < 12 → isShaped (suc n) (wordsOf (drop (c .at) bs)) ≡ false
-    at-line n h =
-        elim (below-or-above (length bs - c .at) 4) [
-          | inl l ↦ rw (words-end bs (c .at) l)
-          | inr l ↦
-              elim (below-or-above (length bs - c .at) 8) [
-                | inl m ↦ rw (words-cons bs (c .at) (omega arith), words-end bs (c .at + 4) (omega arith))
-                | inr m ↦ rw (words-cons bs (c .at) (omega arith), words-cons bs (c .at + 4) (omega arith), words-end bs (c .at + 4 + 4) (omega arith))
-              ]
-        ]
-
-    go : (n : ℕ) → c .left ≡ n → leftShaped bs c ≡ eqb (c .left) 0 && ltb (length bs - c .at) 4
-    go zero e = rw e (at-block (leb-false 8 (length bs - c .at) (rw e at more)))
-    go (suc n) e = rw (e, some n) (at-line n (leb-false 12 (length bs - c .at) (rw (e, some n) at more)))

@@ -1,15 +1,20 @@
 -- A walk of a day file's bytes, block head by block head and line by line (01, 'Day file').
-use mathlib.Core.Bool.{Bool, cond}
+use mathlib.Core.Bool.{Bool, cond, not, _&&_, _||_}
 use mathlib.Core.List.{List, [], _∷_}
 use Prim.Native.Nat.{ℕ, _+_, _-_, _*_, _/_, _%_}
 use lib.Dec.{eqb, leb}
-use lib.ListN.{length, getD, drop}
+use lib.ListN.{length, drop}
 use Rattle.rules.specs.Entry.{keyOf}
 use Rattle.rules.specs.Words.{valueOf}
-use Rattle.rules.specs.DayFile.{Item, line, headItem, linesIn, partyIn, isHead, isLine, isShaped, itemsFrom, wordsOf}
+use Rattle.rules.specs.DayFile.{Item, line, headItem, linesIn, partyIn, isHead, isLine, itemsFrom, wordsOf}
 use Rattle.coding.specs.Coding.{wordAt}
 use Rattle.fileform.specs.declared.Cursor.{Cursor}
 use Rattle.fileform.specs.declared.Line.{Line}
+use Rattle.fileform.specs.declared.reader.Piece.{Piece}
+use Rattle.fileform.specs.declared.reader.TakenPiece.{TakenPiece}
+use Rattle.fileform.specs.declared.walk.Form.{Form}
+use Rattle.fileform.specs.declared.walk.Pass.{Pass}
+use Rattle.fileform.specs.Read.{pieceBy}
 
 abbrev pub start : Cursor
 start = record { at = 0; left = 0; party = 0; day = 0 }
@@ -54,17 +59,33 @@ itemsAt bs c =
     (headItem (headAt bs (c .at) .left) (headAt bs (c .at) .party) (headAt bs (c .at) .day) [])
     (lineItem c (lineAt bs (c .at)) ∷ [])
 
--- the next head or line has its kinds, and no spare or status bit set
-unfoldable pub isStepOk : List ℕ → Cursor → Bool
-isStepOk bs c =
-    cond
-    (eqb (c .left) 0)
-    (isHead (wordAt bs (c .at)) (wordAt bs (c .at + 4)))
-    (isLine (wordAt bs (c .at)) (wordAt bs (c .at + 4)) (wordAt bs (c .at + 8)))
+-- how a file's form stands past a head or a line: its kinds right, and no spare or status bit set. Where not even a first word is whole, a block may have ended
+abbrev pub headPast : Piece → Form
+headPast p =
+    record {
+      left = linesIn (p .first);
+      going = p .whole && isHead (p .first) (p .second);
+      fit = (p .whole && isHead (p .first) (p .second)) || not (p .any);
+    }
+
+abbrev pub linePast : Form → Piece → Form
+linePast f p =
+    record {
+      left = f .left - 1;
+      going = p .whole && isLine (p .first) (p .second) (p .third);
+      fit = p .whole && isLine (p .first) (p .second) (p .third);
+    }
+
+unfoldable pub formPast : Form → Piece → Form
+formPast f p = cond (eqb (f .left) 0) (headPast p) (linePast f p)
+
+-- a pass one head or line further, by its reader
+abbrev pub takenNext : Pass → TakenPiece
+takenNext p = pieceBy (p .reader) (not (eqb (p .form .left) 0))
+
+abbrev pub passedOn : Pass → Pass
+passedOn p = record { reader = takenNext p .reader; form = formPast (p .form) (takenNext p .piece) }
 
 -- what is left from here on
 abbrev pub leftItems : List ℕ → Cursor → List Item
 leftItems bs c = itemsFrom (c .left) (c .party) (c .day) (wordsOf (drop (c .at) bs))
-
-abbrev pub leftShaped : List ℕ → Cursor → Bool
-leftShaped bs c = isShaped (c .left) (wordsOf (drop (c .at) bs))

@@ -5,12 +5,26 @@ ghost use Prim.Native.Nat.{_+_, _*_, _≤_};
 ghost use lib.ListN.{length};
 ghost use Rattle.rules.specs.DayFile.{isHead, isLine, isShaped, wordsOf};
 ghost use Rattle.coding.specs.Coding.{wordAt};
-ghost use Rattle.fileform.specs.Walk.{start, isMore, headAt, pastStep, lineAt, isStepOk};
+ghost use Rattle.fileform.specs.Walk.{start, isMore, headAt, pastStep, lineAt, formPast, passedOn};
 use crate::Cursor;
 use crate::Line;
 use crate::reader;
 use crate::reader::Piece;
+use crate::reader::Reader;
 use words::KIND;
+
+// How the form of a file stands: the lines of the block still to come, whether the pass goes on, and whether what was read has its form.
+pub struct Form {
+    pub left: u32,
+    pub going: bool,
+    pub fit: bool,
+}
+
+// A pass over a file: its one reader, and how the form stands.
+pub struct Pass<'a> {
+    pub reader: Reader<'a>,
+    pub form: Form,
+}
 
 pub fn begin() -> Cursor
     ensures { λ r. ⌜ r ≡ start ⌝ }
@@ -99,29 +113,53 @@ fn line_ok(line: Piece) -> bool
         & (high % KIND < 4096)
 }
 
-// Whether the next head or line has its kinds, and no spare or status bit set.
-pub fn step_ok(file: &[u8], c: Cursor) -> bool
-    requires { ⌜ isMore (now file) c ≡ true ⌝ }
-    ensures { λ r. ⌜ r ≡ isStepOk (now (file .entry)) c ⌝ }
+// The form past a head or a line: kinds right, and no spare or status bit set. A file may end only where a block has ended.
+fn form_past(form: Form, piece: Piece) -> Form
+    ensures { λ r. ⌜ r ≡ formPast form piece ⌝ }
 {
-    let at = c.at;
-    if c.left == 0 {
-        return head_ok(reader::piece_from(file, at, false));
+    let left = form.left;
+    if left == 0 {
+        let ok = piece.whole & head_ok(piece);
+        return Form {
+            left: piece.first % KIND / 65536,
+            going: ok,
+            fit: ok | !piece.any,
+        };
     }
-    line_ok(reader::piece_from(file, at, true))
+    let ok = piece.whole & line_ok(piece);
+    Form {
+        left: left - 1,
+        going: ok,
+        fit: ok,
+    }
 }
 
-// Whether the bytes are whole blocks: one head or line after the other.
+// One head or line further, by the pass's own reader.
+fn pass_on<'a>(p: Pass<'a>) -> Pass<'a>
+    ensures { λ r. ⌜ r ≡ passedOn (p .entry) ⌝ }
+{
+    let form = p.form;
+    let taken = reader::take_piece(p.reader, form.left != 0);
+    Pass {
+        reader: taken.reader,
+        form: form_past(form, taken.piece),
+    }
+}
+
+// Whether the bytes are whole blocks: one reader from the first word to the last, one head or line after the other.
 pub fn shaped(file: &[u8]) -> bool
     ensures { λ r. ⌜ r ≡ isShaped 0 (wordsOf (now (file .entry))) ⌝ }
 {
-    let mut c = begin();
-    while more(file, c) {
-        if !step_ok(file, c) {
-            return false;
-        }
-        c = advance(file, c);
+    let mut pass = Pass {
+        reader: reader::new(file, 0),
+        form: Form {
+            left: 0,
+            going: true,
+            fit: true,
+        },
+    };
+    while pass.form.going {
+        pass = pass_on(pass);
     }
-    let at = c.at;
-    (c.left == 0) & (file.len() - at < 4)
+    pass.form.fit
 }

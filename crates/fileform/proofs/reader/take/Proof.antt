@@ -46,7 +46,6 @@ use denote.Triple.Clauses.{ensured, lasts}
 use Rattle.fileform.specs.Read.{foundAt, movedBy}
 use Rattle.fileform.specs.declared.reader.Reader.{Reader}
 use Rattle.fileform.specs.declared.reader.Found.{Found}
-use Rattle.fileform.specs.declared.reader.Taken.{Taken}
 use Rattle.fileform.proofs.reader.Reader as T
 use Rattle.fileform.proofs.reader.Reader.Laws as T′
 use Rattle.fileform.proofs.reader.Found as F
