@@ -1,11 +1,12 @@
 -- `tally::sum_place` meets its contract. Assumes nothing.
+use native.Mathlib.Omega.{arith}
 use Rattle.rules.proofs.WordLaws.{within-true}
 use borrow.Author.Needs.{needs}
 use Rattle.tally.proofs.sum_place.Statement.{statement}
 use Rattle.tally.proofs.sum_place.Tie as tie
 
 sub-result : tie.Need-sub-result
-sub-result c = within-true 1 16 (c .args .entry-type) (c .pre) .0
+sub-result c = let v = within-true 1 16 (c .args .entry-type) (c .pre) in omega arith
 
 cast-result : tie.Need-cast-result
 cast-result c = search needs
