@@ -1,10 +1,9 @@
 // Internal: a walk of a file's bytes, block head by block head and line by line. A caller meets each `requires`.
 ghost use mathlib.Core.Path.{_≡_};
 ghost use mathlib.Core.Bool.{true};
-ghost use Prim.Native.Nat.{_+_, _*_, _≤_};
+ghost use Prim.Native.Nat.{_+_, _≤_};
 ghost use lib.ListN.{length};
 ghost use Rattle.rules.specs.DayFile.{isHead, isLine, isShaped, wordsOf};
-ghost use Rattle.coding.specs.Coding.{wordAt};
 ghost use Rattle.fileform.specs.Walk.{start, isMore, headAt, pastStep, lineAt, formPast, passedOn};
 use crate::Cursor;
 use crate::Line;

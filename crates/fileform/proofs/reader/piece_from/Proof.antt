@@ -17,21 +17,20 @@ use prog.Wp.{Heap, Calls, Loops, WpFn, Tables}
 use ghost.Atoms.{Atoms, sem}
 use contract.Monad.{Fun, fact}
 use contract.Running.{givenOf, tables, tablesOf}
-use types.Kit.{Given, ‵, raw, _⊛_, ⋆, some, later, _$_, _∵_, !, qed, by, move, drop, use1, use2, split, join, pick, rewrite, fsplit, fjoin, suffices, frame, await, done}
+use types.Kit.{Given, ‵, raw, _⊛_, ⋆, _$_, _∵_, !, qed, by, move, drop, use1, use2, split, join, rewrite, fsplit, fjoin, suffices, frame, done}
 use types.Part.{whole, sub, look-in}
 use types.Run.{look, init, forget, stop, fld, from, load, of-opd, and-then, no-more, assigns, land, returns, enter, alloc1, alloc0, params1, pass1, pass0, free1, free0}
 use sound.WpLaws.{FmC, fmOf, WpFn-mono}
 use denote.RattleType.{owns}
-use denote.Laws.{Is, shows}
+use denote.Laws.{Is}
 use denote.Plain.{uint-vals, uint-tells, uint-makes, bool-vals, bool-tells, bool-makes}
 use denote.Builtin.{u8, usize, bool}
 use denote.Ref.{RefT, now}
 use denote.Signature.{plain}
 use denote.Slice.{sliceVal, ShrSlice, slice-vals, shr-slice-tells, shr-slice-lawful, shr-slice-copy}
-use denote.Steps.{owned, peeks, heard, nothing, only}
+use denote.Steps.{owned, nothing, only}
 use denote.Struct.Laws as LL
 use denote.Triple.Statement.{Contract, Triple}
-use denote.Triple.Call.{calls-at}
 use denote.Triple.Entry.{Vals, onEntry}
 use denote.Triple.Spec.{Meets, tripleOf}
 use denote.Triple.Table.{entered, cited}
@@ -42,6 +41,7 @@ use Rattle.fileform.specs.Read.{pieceBy, pieceFrom}
 use Rattle.fileform.specs.declared.reader.Reader.{Reader}
 use Rattle.fileform.specs.declared.reader.Piece.{Piece as PieceD}
 use Rattle.fileform.specs.declared.reader.TakenPiece.{TakenPiece}
+use Rattle.fileform.proofs.RunLaws.{hears}
 use Rattle.fileform.proofs.HeldLaws.{α, αᵉ, ReaderT, TakenPieceT, Fits, piece-is, reader-typed, piece-typed}
 use Rattle.fileform.proofs.CallLaws.{Piece, to-piece, asks-piece, said-piece}
 use Rattle.fileform.proofs.reader.Piece as P
@@ -121,24 +121,18 @@ module _ {M : Type 1} (𝓤 : URA M) (H : Heap 𝓤) (A : Atoms 𝓤) (W : Given
         alloc1 ! (λ l₀. alloc1 ! (λ l₁. alloc1 ! (λ l₂. alloc1 ! (λ l₃. alloc1 ! (λ l₄. alloc1 ! (λ l₅. alloc0 ! $ params1 ! $
         pass1 ! (init ! 8 refl (shr-slice-lawful 𝓤 H A W (named 0) κ u8 .typed s (v ∷ []) p .0)) $ pass1 ! (init ! 6 refl (tt, record { fits = ok })) $ pass1 ! (init ! 4 refl (tt, tt)) $ pass0 ! $
         move ! (12 ∷ []) $ use1 W (raw (New 𝓤 H A mem run .pre to-new) ⊛ ‵ Own) goes-new $ split ! $
-        calls-at ! fm (New 𝓤 H A mem run) known-new to-new (and-then ! (load ! (from ! (stop !)) (look ! 10 refl)) (and-then ! (load ! (from ! (stop !)) (look ! 8 refl)) (no-more !))) (λ u.
-        use1 W (later (some (λ (r : Reader). ((‵ (flft κ q) ⊛ ‵ ftrue) ⊛ ‵ (ReaderT κ .own r (u ∷ []))) ⊛ raw (ensured 𝓤 H A new.ended (new.clauses 𝓤 H A mem run) (κ, tt) (s, (n, tt)) tt r)))) (id⊢ 𝓤 _) $ await ! tt $ pick ! (λ r.
-        split ! $ move ! (1 ∷ []) $ use1 W (raw (fact 𝓤 ((r .bytes ≡ s) × (r .at ≡ n)))) (new-said r) $ heard ! ((r .bytes ≡ s) × (r .at ≡ n)) (λ e. split ! $ move ! (1 ∷ []) $
+        hears ! fm (New 𝓤 H A mem run) known-new to-new (ReaderT κ) (‵ (flft κ q) ⊛ ‵ ftrue) (λ r. ensured 𝓤 H A new.ended (new.clauses 𝓤 H A mem run) (κ, tt) (s, (n, tt)) tt r) (λ r. (r .bytes ≡ s) × (r .at ≡ n)) (λ _. id⊢ 𝓤 _) new-said (and-then ! (load ! (from ! (stop !)) (look ! 10 refl)) (and-then ! (load ! (from ! (stop !)) (look ! 8 refl)) (no-more !))) (λ u r e is.
         -- [what the reader owns; the token; what s owns; room for _5; …; _3; …; _2; …; _1; …; room for _0; …]
-        peeks ! (ReaderT κ) (Is (ReaderT κ)) (shows 𝓤 H A (ReaderT κ)) r (u ∷ []) (λ is.
         land ! (from ! (stop !)) (init ! 3 refl (reader-typed 𝓤 H A W κ r u is)) $
         use2 W (raw (Piece 𝓤 H A mem run .pre (to-piece 𝓤 H A mem run κ q r u line))) (asks-piece 𝓤 H A mem run W κ q r u line) $
-        calls-at ! fm (Piece 𝓤 H A mem run) known-piece (to-piece 𝓤 H A mem run κ q r u line) (and-then ! (load ! (from ! (stop !)) (look ! 2 refl)) (and-then ! (load ! (from ! (stop !)) (look ! 6 refl)) (no-more !))) (λ u′.
-        use1 W (later (some (λ (t : TakenPiece). ((‵ (flft κ q) ⊛ ‵ ftrue) ⊛ ‵ (TakenPieceT κ .own t (u′ ∷ []))) ⊛ raw (ensured 𝓤 H A piece.ended (piece.clauses 𝓤 H A mem run) (κ, tt) (r, (line, tt)) tt t)))) (id⊢ 𝓤 _) $ await ! tt $ pick ! (λ t.
-        split ! $ move ! (1 ∷ []) $ use1 W (raw (fact 𝓤 (t ≡ pieceBy r line))) (said-piece 𝓤 H A mem run κ r line t) $ heard ! (t ≡ pieceBy r line) (λ e′. split ! $ move ! (1 ∷ []) $
+        hears ! fm (Piece 𝓤 H A mem run) known-piece (to-piece 𝓤 H A mem run κ q r u line) (TakenPieceT κ) (‵ (flft κ q) ⊛ ‵ ftrue) (λ t. ensured 𝓤 H A piece.ended (piece.clauses 𝓤 H A mem run) (κ, tt) (r, (line, tt)) tt t) (λ t. t ≡ pieceBy r line) (λ _. id⊢ 𝓤 _) (said-piece 𝓤 H A mem run κ r line) (and-then ! (load ! (from ! (stop !)) (look ! 2 refl)) (and-then ! (load ! (from ! (stop !)) (look ! 6 refl)) (no-more !))) (λ u′ t e′ is′.
         -- [what `take_piece` gave; the token; what s owns; _5; …; room for _4 at 5; …; room for _0; …]
-        peeks ! (TakenPieceT κ) (Is (TakenPieceT κ)) (shows 𝓤 H A (TakenPieceT κ)) t (u′ ∷ []) (λ is′.
         land ! (from ! (stop !)) (init ! 5 refl (LL.lawful (Q.the-type (αᵉ κ)) (Q′.the-laws (αᵉ κ)) 𝓤 H A W .typed t _ is′ .0)) $
         rewrite ! 5 (λ (w : Val). ‵ (fat fullShare (Q′.mir erased) l₄ 0 w)) (ap only (LL.tells (Q.the-type (α κ)) (Q′.the-laws (α κ)) t _ is′)) refl $ drop ! $
         assigns ! (of-opd ! (load ! (from ! (fld ! refl (stop !))) (look-in ! 4 (sub ! 1 refl (whole !))))) (from ! (stop !)) (init ! 12 refl (tt, piece-typed 𝓤 H A W κ t u′ is′ .1 .1 .0)) $
         returns ! (look ! 12 refl) $ forget ! 2 refl $ forget ! 4 refl $ forget ! 6 refl $ forget ! 8 refl $ forget ! 10 refl $ forget ! 12 refl $
         move ! (12 ∷ 13 ∷ []) $ free1 ! $ move ! (10 ∷ 11 ∷ []) $ free1 ! $ move ! (8 ∷ 9 ∷ []) $ free1 ! $ move ! (6 ∷ 7 ∷ []) $ free1 ! $ move ! (4 ∷ 5 ∷ []) $ free1 ! $ move ! (2 ∷ 3 ∷ []) $ free1 ! $ free0 ! $
-        by ! (exits (t .piece) (record { first = piece-typed 𝓤 H A W κ t u′ is′ .1 .1 .0 .1 .1 .0 .fits; second = piece-typed 𝓤 H A W κ t u′ is′ .1 .1 .0 .1 .1 .1 .0 .fits; third = piece-typed 𝓤 H A W κ t u′ is′ .1 .1 .0 .1 .1 .1 .1 .0 .fits }) (same r t e e′))))))))))))))))
+        by ! (exits (t .piece) (record { first = piece-typed 𝓤 H A W κ t u′ is′ .1 .1 .0 .1 .1 .0 .fits; second = piece-typed 𝓤 H A W κ t u′ is′ .1 .1 .0 .1 .1 .1 .0 .fits; third = piece-typed 𝓤 H A W κ t u′ is′ .1 .1 .0 .1 .1 .1 .1 .0 .fits }) (same r t e e′))))))))))
 
 module _ {M : Type 1} (𝓤 : URA M) (H : Heap 𝓤) (A : Atoms 𝓤) (W : Given 𝓤 H A) (mem : Memory → SProp 𝓤) (run : Routine → Fun 𝓤) where
   piece-from-walks : (C : Calls 𝓤 H) (Λ : Loops 𝓤 H) → FmC 𝓤 H (W .laws) C → Triple 𝓤 (C #fileform·reader·new) (New 𝓤 H A mem run) → Triple 𝓤 (C #fileform·reader·take-piece) (Piece 𝓤 H A mem run)

@@ -12,20 +12,19 @@ use prog.Memory.{Memory}
 use prog.Routine.{Routine}
 use prog.Wp.{Heap, Calls, Loops, WpFn, Tables}
 use ghost.Atoms.{Atoms, sem}
-use contract.Monad.{Fun, fact}
+use contract.Monad.{Fun}
 use contract.Running.{givenOf, tables, tablesOf}
-use types.Kit.{Given, ‵, raw, _⊛_, ⋆, some, later, _$_, _∵_, !, qed, by, move, drop, use1, use2, split, pick, fsplit, fjoin, suffices, frame, await, done}
+use types.Kit.{Given, ‵, raw, _⊛_, ⋆, _$_, _∵_, !, qed, by, move, drop, use1, use2, split, fsplit, fjoin, suffices, frame, done}
 use types.Run.{look, init, forget, stop, from, load, of-opd, and-then, no-more, assigns, land, returns, returns-within, enter, alloc1, alloc0, params1, pass1, pass0, free1, free0}
 use sound.WpLaws.{FmC, fmOf, WpFn-mono}
 use denote.RattleType.{owns}
-use denote.Laws.{Is, shows}
+use denote.Laws.{Is}
 use denote.Plain.{bool-vals, bool-tells, bool-makes}
 use denote.Builtin.{bool}
 use denote.Signature.{namedLft}
-use denote.Steps.{peeks, heard, nothing, owned}
+use denote.Steps.{nothing, owned}
 use denote.Struct.Laws as LL
 use denote.Triple.Statement.{Triple}
-use denote.Triple.Call.{calls-at}
 use denote.Triple.Entry.{onEntry}
 use denote.Triple.Spec.{Meets, tripleOf}
 use denote.Triple.Table.{entered, cited}
@@ -36,7 +35,7 @@ use Rattle.fileform.specs.Read.{twoBy, threeBy, pieceBy}
 use Rattle.fileform.specs.declared.reader.Reader.{Reader}
 use Rattle.fileform.specs.declared.reader.TakenPiece.{TakenPiece}
 use Rattle.fileform.proofs.HeldLaws.{α, ReaderT, TakenPieceT, reader-typed}
-use Rattle.fileform.proofs.RunLaws.{guards}
+use Rattle.fileform.proofs.RunLaws.{guards, hears}
 use Rattle.fileform.proofs.CallLaws.{Two, Three, to-two, to-three, asks-two, asks-three, said-two, said-three}
 use Rattle.fileform.proofs.reader.Reader as T
 use Rattle.fileform.proofs.reader.Reader.Laws as T′
@@ -106,24 +105,18 @@ module _ {M : Type 1} (𝓤 : URA M) (H : Heap 𝓤) (A : Atoms 𝓤) (W : Given
         guards ! (load ! (from ! (stop !)) (look ! 4 refl))
         (λ yes-line. assigns ! (of-opd ! (load ! (from ! (stop !)) (look ! 8 refl))) (from ! (stop !)) (init ! 2 refl (reader-typed 𝓤 H A W κ d mach p)) $
         move ! (12 ∷ []) $ use1 W (raw (Three 𝓤 H A mem run .pre (to-three 𝓤 H A mem run κ q d mach)) ⊛ ‵ Own) goes-three $ split ! $
-        calls-at ! fm (Three 𝓤 H A mem run) known-three (to-three 𝓤 H A mem run κ q d mach) (and-then ! (load ! (from ! (stop !)) (look ! 4 refl)) (no-more !)) (λ u.
-        use1 W (later (some (λ (t : TakenPiece). ((‵ (flft κ q) ⊛ ‵ ftrue) ⊛ ‵ (TakenPieceT κ .own t (u ∷ []))) ⊛ raw (ensured 𝓤 H A three.ended (three.clauses 𝓤 H A mem run) (κ, tt) (d, tt) tt t)))) (id⊢ 𝓤 _) $ await ! tt $ pick ! (λ t.
-        split ! $ move ! (1 ∷ []) $ use1 W (raw (fact 𝓤 (t ≡ threeBy d))) (said-three 𝓤 H A mem run κ d t) $ heard ! (t ≡ threeBy d) (λ e. split ! $ move ! (1 ∷ []) $
-        peeks ! (TakenPieceT κ) (Is (TakenPieceT κ)) (shows 𝓤 H A (TakenPieceT κ)) t (u ∷ []) (λ is.
+        hears ! fm (Three 𝓤 H A mem run) known-three (to-three 𝓤 H A mem run κ q d mach) (TakenPieceT κ) (‵ (flft κ q) ⊛ ‵ ftrue) (λ t. ensured 𝓤 H A three.ended (three.clauses 𝓤 H A mem run) (κ, tt) (d, tt) tt t) (λ t. t ≡ threeBy d) (λ _. id⊢ 𝓤 _) (said-three 𝓤 H A mem run κ d) (and-then ! (load ! (from ! (stop !)) (look ! 4 refl)) (no-more !)) (λ u t e is.
         land ! (from ! (stop !)) (init ! 13 refl (LL.lawful (Q.the-type (α κ)) (Q′.the-laws (α κ)) 𝓤 H A W .typed t _ is .0)) $
         returns-within ! Post refl (look ! 13 refl) $ forget ! 5 refl $ forget ! 7 refl $ forget ! 9 refl $ forget ! 11 refl $ forget ! 13 refl $
         move ! (13 ∷ 14 ∷ []) $ free1 ! $ move ! (11 ∷ 12 ∷ []) $ free1 ! $ move ! (9 ∷ 10 ∷ []) $ free1 ! $ move ! (7 ∷ 8 ∷ []) $ free1 ! $ move ! (5 ∷ 6 ∷ []) $ free1 ! $ move ! (3 ∷ 4 ∷ []) $ free1 ! $ free0 ! $
-        by ! (exits t u (e ∙ is-line d line yes-line)))))))
+        by ! (exits t u (e ∙ is-line d line yes-line))))
         (λ no-line. assigns ! (of-opd ! (load ! (from ! (stop !)) (look ! 8 refl))) (from ! (stop !)) (init ! 0 refl (reader-typed 𝓤 H A W κ d mach p)) $
         move ! (12 ∷ []) $ use1 W (raw (Two 𝓤 H A mem run .pre (to-two 𝓤 H A mem run κ q d mach)) ⊛ ‵ Own) goes-two $ split ! $
-        calls-at ! fm (Two 𝓤 H A mem run) known-two (to-two 𝓤 H A mem run κ q d mach) (and-then ! (load ! (from ! (stop !)) (look ! 2 refl)) (no-more !)) (λ u.
-        use1 W (later (some (λ (t : TakenPiece). ((‵ (flft κ q) ⊛ ‵ ftrue) ⊛ ‵ (TakenPieceT κ .own t (u ∷ []))) ⊛ raw (ensured 𝓤 H A two.ended (two.clauses 𝓤 H A mem run) (κ, tt) (d, tt) tt t)))) (id⊢ 𝓤 _) $ await ! tt $ pick ! (λ t.
-        split ! $ move ! (1 ∷ []) $ use1 W (raw (fact 𝓤 (t ≡ twoBy d))) (said-two 𝓤 H A mem run κ d t) $ heard ! (t ≡ twoBy d) (λ e. split ! $ move ! (1 ∷ []) $
-        peeks ! (TakenPieceT κ) (Is (TakenPieceT κ)) (shows 𝓤 H A (TakenPieceT κ)) t (u ∷ []) (λ is.
+        hears ! fm (Two 𝓤 H A mem run) known-two (to-two 𝓤 H A mem run κ q d mach) (TakenPieceT κ) (‵ (flft κ q) ⊛ ‵ ftrue) (λ t. ensured 𝓤 H A two.ended (two.clauses 𝓤 H A mem run) (κ, tt) (d, tt) tt t) (λ t. t ≡ twoBy d) (λ _. id⊢ 𝓤 _) (said-two 𝓤 H A mem run κ d) (and-then ! (load ! (from ! (stop !)) (look ! 2 refl)) (no-more !)) (λ u t e is.
         land ! (from ! (stop !)) (init ! 13 refl (LL.lawful (Q.the-type (α κ)) (Q′.the-laws (α κ)) 𝓤 H A W .typed t _ is .0)) $
         returns ! (look ! 13 refl) $ forget ! 3 refl $ forget ! 7 refl $ forget ! 9 refl $ forget ! 11 refl $ forget ! 13 refl $
         move ! (13 ∷ 14 ∷ []) $ free1 ! $ move ! (11 ∷ 12 ∷ []) $ free1 ! $ move ! (9 ∷ 10 ∷ []) $ free1 ! $ move ! (7 ∷ 8 ∷ []) $ free1 ! $ move ! (5 ∷ 6 ∷ []) $ free1 ! $ move ! (3 ∷ 4 ∷ []) $ free1 ! $ free0 ! $
-        by ! (exits t u (e ∙ is-head d line no-line)))))))))))))
+        by ! (exits t u (e ∙ is-head d line no-line))))))))))
 
 module _ {M : Type 1} (𝓤 : URA M) (H : Heap 𝓤) (A : Atoms 𝓤) (W : Given 𝓤 H A) (mem : Memory → SProp 𝓤) (run : Routine → Fun 𝓤) where
   piece-walks : (C : Calls 𝓤 H) (Λ : Loops 𝓤 H) → FmC 𝓤 H (W .laws) C → Triple 𝓤 (C #fileform·reader·take-three) (Three 𝓤 H A mem run) → Triple 𝓤 (C #fileform·reader·take-two) (Two 𝓤 H A mem run)

@@ -12,19 +12,18 @@ use prog.Memory.{Memory}
 use prog.Routine.{Routine}
 use prog.Wp.{Heap, Calls, Loops, WpFn, Tables}
 use ghost.Atoms.{Atoms, sem}
-use contract.Monad.{Fun, fact}
+use contract.Monad.{Fun}
 use contract.Running.{givenOf, tables, tablesOf}
-use types.Kit.{Given, ‵, raw, _⊛_, ⋆, some, later, _$_, _∵_, !, qed, by, move, drop, use1, use2, split, pick, rewrite, fsplit, fjoin, suffices, frame, await, done}
+use types.Kit.{Given, ‵, raw, _⊛_, ⋆, _$_, _∵_, !, qed, by, move, drop, use1, use2, split, rewrite, fsplit, fjoin, suffices, frame, done}
 use types.Part.{whole, sub, look-in, agg}
 use types.Run.{look, init, forget, stop, fld, from, load, of-opd, and-then, no-more, assigns, land, returns, enter, alloc1, alloc0, params1, pass1, pass0, free1, free0}
 use sound.WpLaws.{FmC, fmOf, WpFn-mono}
 use denote.RattleType.{owns}
-use denote.Laws.{Is, shows}
+use denote.Laws.{Is}
 use denote.Signature.{namedLft}
-use denote.Steps.{peeks, heard, nothing, only}
+use denote.Steps.{nothing, only}
 use denote.Struct.Laws as LL
 use denote.Triple.Statement.{Triple}
-use denote.Triple.Call.{calls-at}
 use denote.Triple.Entry.{onEntry}
 use denote.Triple.Spec.{Meets, tripleOf}
 use denote.Triple.Table.{entered, cited}
@@ -35,6 +34,7 @@ use Rattle.fileform.specs.Read.{takenBy, lineOf, twoBy, threeBy}
 use Rattle.fileform.specs.declared.reader.Reader.{Reader}
 use Rattle.fileform.specs.declared.reader.Taken.{Taken}
 use Rattle.fileform.specs.declared.reader.TakenPiece.{TakenPiece}
+use Rattle.fileform.proofs.RunLaws.{hears}
 use Rattle.fileform.proofs.HeldLaws.{α, αᵉ, ReaderT, TakenT, TakenPieceT, Fits, reader-typed, taken-typed, piece-typed, reader-taken, reader-past, piece-held}
 use Rattle.fileform.proofs.CallLaws.{Take, Two, to-take, to-two, asks-take, asks-two, said-take, said-two}
 use Rattle.fileform.proofs.reader.Reader as T
@@ -90,21 +90,15 @@ module _ {M : Type 1} (𝓤 : URA M) (H : Heap 𝓤) (A : Atoms 𝓤) (W : Given
         pass1 ! (init ! 22 refl (LL.lawful (T.the-type (α κ)) (T′.the-laws (α κ)) 𝓤 H A W .typed d _ p .0)) $ pass0 ! $
         assigns ! (of-opd ! (load ! (from ! (stop !)) (look ! 22 refl))) (from ! (stop !)) (init ! 16 refl (reader-typed 𝓤 H A W κ d mach p)) $
         move ! (26 ∷ []) $ use1 W (raw (Two 𝓤 H A mem run .pre (to-two 𝓤 H A mem run κ q d mach)) ⊛ ‵ (Own d)) goes $ split ! $
-        calls-at ! fm (Two 𝓤 H A mem run) known-two (to-two 𝓤 H A mem run κ q d mach) (and-then ! (load ! (from ! (stop !)) (look ! 18 refl)) (no-more !)) (λ u.
-        use1 W (later (some (λ (a : TakenPiece). ((‵ (flft κ q) ⊛ ‵ ftrue) ⊛ ‵ (TakenPieceT κ .own a (u ∷ []))) ⊛ raw (ensured 𝓤 H A two.ended (two.clauses 𝓤 H A mem run) (κ, tt) (d, tt) tt a)))) (id⊢ 𝓤 _) $ await ! tt $ pick ! (λ a.
-        split ! $ move ! (1 ∷ []) $ use1 W (raw (fact 𝓤 (a ≡ twoBy d))) (said-two 𝓤 H A mem run κ d a) $ heard ! (a ≡ twoBy d) (λ e. split ! $ move ! (1 ∷ []) $
+        hears ! fm (Two 𝓤 H A mem run) known-two (to-two 𝓤 H A mem run κ q d mach) (TakenPieceT κ) (‵ (flft κ q) ⊛ ‵ ftrue) (λ a. ensured 𝓤 H A two.ended (two.clauses 𝓤 H A mem run) (κ, tt) (d, tt) tt a) (λ a. a ≡ twoBy d) (λ _. id⊢ 𝓤 _) (said-two 𝓤 H A mem run κ d) (and-then ! (load ! (from ! (stop !)) (look ! 18 refl)) (no-more !)) (λ u a e is.
         -- [what `take_two` gave; the token; what d owns; _12; …; _2 at 23; …; room for _0; …]
-        peeks ! (TakenPieceT κ) (Is (TakenPieceT κ)) (shows 𝓤 H A (TakenPieceT κ)) a (u ∷ []) (λ is.
         land ! (from ! (stop !)) (init ! 23 refl (LL.lawful (Q.the-type (αᵉ κ)) (Q′.the-laws (αᵉ κ)) 𝓤 H A W .typed a _ is .0)) $
         rewrite ! 23 (λ (w : Val). ‵ (fat fullShare (Q′.mir erased) l₂ 0 w)) (ap only (LL.tells (Q.the-type (α κ)) (Q′.the-laws (α κ)) a _ is)) refl $
         assigns ! (of-opd ! (load ! (from ! (fld ! refl (stop !))) (look-in ! 23 (sub ! 0 refl (whole !))))) (from ! (stop !)) (init ! 17 refl (tt, piece-typed 𝓤 H A W κ a u is .1 .0)) $
         use1 W (‵ (Own (a .reader))) (reader-past 𝓤 H A W κ a u) $
         use2 W (raw (Take 𝓤 H A mem run .pre (to-take 𝓤 H A mem run κ q (a .reader) (T′.lowered (a .reader))))) (asks-take 𝓤 H A mem run W κ q (a .reader) (T′.lowered (a .reader))) $
-        calls-at ! fm (Take 𝓤 H A mem run) known (to-take 𝓤 H A mem run κ q (a .reader) (T′.lowered (a .reader))) (and-then ! (load ! (from ! (stop !)) (look ! 16 refl)) (no-more !)) (λ u′.
-        use1 W (later (some (λ (b : Taken). ((‵ (flft κ q) ⊛ ‵ ftrue) ⊛ ‵ (TakenT κ .own b (u′ ∷ []))) ⊛ raw (ensured 𝓤 H A take.ended (take.clauses 𝓤 H A mem run) (κ, tt) (a .reader, tt) tt b)))) (id⊢ 𝓤 _) $ await ! tt $ pick ! (λ b.
-        split ! $ move ! (1 ∷ []) $ use1 W (raw (fact 𝓤 (b ≡ takenBy (a .reader)))) (said-take 𝓤 H A mem run κ (a .reader) b) $ heard ! (b ≡ takenBy (a .reader)) (λ e′. split ! $ move ! (1 ∷ []) $
+        hears ! fm (Take 𝓤 H A mem run) known (to-take 𝓤 H A mem run κ q (a .reader) (T′.lowered (a .reader))) (TakenT κ) (‵ (flft κ q) ⊛ ‵ ftrue) (λ b. ensured 𝓤 H A take.ended (take.clauses 𝓤 H A mem run) (κ, tt) (a .reader, tt) tt b) (λ b. b ≡ takenBy (a .reader)) (λ _. id⊢ 𝓤 _) (said-take 𝓤 H A mem run κ (a .reader)) (and-then ! (load ! (from ! (stop !)) (look ! 16 refl)) (no-more !)) (λ u′ b e′ is′.
         -- [what the third step gave; the token; what d owns; _12; …; _3 at 21; …; _2 at 23; …; room for _0; …]
-        peeks ! (TakenT κ) (Is (TakenT κ)) (shows 𝓤 H A (TakenT κ)) b (u′ ∷ []) (λ is′.
         land ! (from ! (stop !)) (init ! 21 refl (LL.lawful (G.the-type (αᵉ κ)) (G′.the-laws (αᵉ κ)) 𝓤 H A W .typed b _ is′ .0)) $
         rewrite ! 21 (λ (w : Val). ‵ (fat fullShare (G′.mir erased) l₃ 0 w)) (ap only (LL.tells (G.the-type (α κ)) (G′.the-laws (α κ)) b _ is′)) refl $
         use1 W (‵ (Own (b .reader))) (reader-taken 𝓤 H A W κ b u′) $
@@ -118,7 +112,7 @@ module _ {M : Type 1} (𝓤 : URA M) (H : Heap 𝓤) (A : Atoms 𝓤) (W : Given
         assigns ! (agg ! (and-then ! (load ! (from ! (stop !)) (look ! 15 refl)) (and-then ! (load ! (from ! (stop !)) (look ! 3 refl)) (no-more !)))) (from ! (stop !)) (init ! 27 refl (tt, (taken-typed 𝓤 H A W κ b u′ is′ .1 .0, ((piece-typed 𝓤 H A W κ a u is .1 .1 .0 .0, (taken-typed 𝓤 H A W κ b u′ is′ .1 .1 .0, (piece-typed 𝓤 H A W κ a u is .1 .1 .0 .1 .1 .0, (piece-typed 𝓤 H A W κ a u is .1 .1 .0 .1 .1 .1 .0, (taken-typed 𝓤 H A W κ b u′ is′ .1 .1 .1 .0, tt))))), tt)))) $
         returns ! (look ! 27 refl) $ forget ! 3 refl $ forget ! 5 refl $ forget ! 7 refl $ forget ! 9 refl $ forget ! 11 refl $ forget ! 13 refl $ forget ! 15 refl $ forget ! 17 refl $ forget ! 19 refl $ forget ! 21 refl $ forget ! 23 refl $ forget ! 25 refl $ forget ! 27 refl $
         move ! (27 ∷ 28 ∷ []) $ free1 ! $ move ! (25 ∷ 26 ∷ []) $ free1 ! $ move ! (23 ∷ 24 ∷ []) $ free1 ! $ move ! (21 ∷ 22 ∷ []) $ free1 ! $ move ! (19 ∷ 20 ∷ []) $ free1 ! $ move ! (17 ∷ 18 ∷ []) $ free1 ! $ move ! (15 ∷ 16 ∷ []) $ free1 ! $ move ! (13 ∷ 14 ∷ []) $ free1 ! $ move ! (11 ∷ 12 ∷ []) $ free1 ! $ move ! (9 ∷ 10 ∷ []) $ free1 ! $ move ! (7 ∷ 8 ∷ []) $ free1 ! $ move ! (5 ∷ 6 ∷ []) $ free1 ! $ move ! (3 ∷ 4 ∷ []) $ free1 ! $ free0 ! $
-        by ! (exits a b (record { first = piece-typed 𝓤 H A W κ a u is .1 .1 .0 .1 .1 .0 .fits; second = piece-typed 𝓤 H A W κ a u is .1 .1 .0 .1 .1 .1 .0 .fits; third = taken-typed 𝓤 H A W κ b u′ is′ .1 .1 .1 .0 .fits }) (ap (lineOf a) e′ ∙ ap (λ (x : TakenPiece). lineOf x (takenBy (x .reader))) e)))))))))))))))))))))))
+        by ! (exits a b (record { first = piece-typed 𝓤 H A W κ a u is .1 .1 .0 .1 .1 .0 .fits; second = piece-typed 𝓤 H A W κ a u is .1 .1 .0 .1 .1 .1 .0 .fits; third = taken-typed 𝓤 H A W κ b u′ is′ .1 .1 .1 .0 .fits }) (ap (lineOf a) e′ ∙ ap (λ (x : TakenPiece). lineOf x (takenBy (x .reader))) e)))))))))))))))))
 
 module _ {M : Type 1} (𝓤 : URA M) (H : Heap 𝓤) (A : Atoms 𝓤) (W : Given 𝓤 H A) (mem : Memory → SProp 𝓤) (run : Routine → Fun 𝓤) where
   three-walks : (C : Calls 𝓤 H) (Λ : Loops 𝓤 H) → FmC 𝓤 H (W .laws) C → Triple 𝓤 (C #fileform·reader·take-two) (Two 𝓤 H A mem run) → Triple 𝓤 (C #fileform·reader·take) (Take 𝓤 H A mem run)

@@ -17,17 +17,16 @@ use prog.Wp.{Heap, Calls, Loops, WpFn, Tables}
 use ghost.Atoms.{Atoms, sem}
 use contract.Monad.{Fun, fact}
 use contract.Running.{givenOf, tables, tablesOf}
-use types.Kit.{Given, ‵, raw, _⊛_, ⋆, some, later, _$_, _∵_, !, qed, by, move, drop, use0, use1, use2, split, join, pick, rewrite, fsplit, fjoin, suffices, frame, await, done}
+use types.Kit.{Given, ‵, raw, _⊛_, ⋆, _$_, _∵_, !, qed, by, move, drop, use0, use1, use2, split, join, rewrite, fsplit, fjoin, suffices, frame, done}
 use types.Part.{whole, sub, look-in, agg}
 use types.Run.{look, init, forget, stop, fld, from, load, lit, of-opd, bin, and-then, no-more, assigns, land, returns, enter, alloc1, alloc0, params1, pass1, pass0, free1, free0}
 use sound.WpLaws.{FmC, fmOf, WpFn-mono}
 use denote.RattleType.{owns}
-use denote.Laws.{Is, shows}
+use denote.Laws.{Is}
 use denote.Signature.{namedLft}
-use denote.Steps.{owned, peeks, heard, nothing, only}
+use denote.Steps.{owned, nothing, only}
 use denote.Struct.Laws as LL
 use denote.Triple.Statement.{Contract, Triple}
-use denote.Triple.Call.{calls-at}
 use denote.Triple.Entry.{onEntry}
 use denote.Triple.Spec.{Meets, tripleOf}
 use denote.Triple.Table.{entered, cited}
@@ -40,6 +39,7 @@ use Rattle.fileform.specs.declared.reader.Piece.{Piece as PieceD}
 use Rattle.fileform.specs.declared.reader.TakenPiece.{TakenPiece}
 use Rattle.fileform.specs.declared.walk.Form.{Form}
 use Rattle.fileform.specs.declared.walk.Pass.{Pass}
+use Rattle.fileform.proofs.RunLaws.{hears}
 use Rattle.fileform.proofs.HeldLaws.{α, αᵉ, ReaderT, TakenPieceT, PassT, Fits, piece-is, form-is, piece-typed, pass-typed, reader-past, reader-passed, pass-held}
 use Rattle.fileform.proofs.CallLaws.{Piece, to-piece, asks-piece, said-piece}
 use Rattle.fileform.proofs.reader.Reader.Laws as T′
@@ -132,28 +132,23 @@ module _ {M : Type 1} (𝓤 : URA M) (H : Heap 𝓤) (A : Atoms 𝓤) (W : Given
         assigns ! (of-opd ! (load ! (from ! (fld ! refl (stop !))) (look-in ! 14 (sub ! 0 refl (whole !))))) (from ! (stop !)) (init ! 8 refl (tt, wt .0)) $
         assigns ! (bin ! (load ! (from ! (fld ! refl (stop !))) (look-in ! 12 (sub ! 0 refl (whole !)))) (lit ! tt) tt) (from ! (stop !)) (init ! 6 refl (tt, tt)) $
         move ! (18 ∷ []) $ use1 W (raw (Piece 𝓤 H A mem run .pre to) ⊛ ‵ Own) goes $ split ! $
-        calls-at ! fm (Piece 𝓤 H A mem run) known-piece to (and-then ! (load ! (from ! (stop !)) (look ! 10 refl)) (and-then ! (load ! (from ! (stop !)) (look ! 8 refl)) (no-more !))) (λ u.
-        use1 W (later (some (λ (t : TakenPiece). ((‵ (flft κ q) ⊛ ‵ ftrue) ⊛ ‵ (TakenPieceT κ .own t (u ∷ []))) ⊛ raw (ensured 𝓤 H A piece.ended (piece.clauses 𝓤 H A mem run) (κ, tt) (d .reader, (line, tt)) tt t)))) (id⊢ 𝓤 _) $ await ! tt $ pick ! (λ t.
-        split ! $ move ! (1 ∷ []) $ use1 W (raw (fact 𝓤 (t ≡ pieceBy (d .reader) line))) (said-piece 𝓤 H A mem run κ (d .reader) line t) $ heard ! (t ≡ pieceBy (d .reader) line) (λ e. split ! $ move ! (1 ∷ []) $
+        hears ! fm (Piece 𝓤 H A mem run) known-piece to (TakenPieceT κ) (‵ (flft κ q) ⊛ ‵ ftrue) (λ t. ensured 𝓤 H A piece.ended (piece.clauses 𝓤 H A mem run) (κ, tt) (d .reader, (line, tt)) tt t) (λ t. t ≡ pieceBy (d .reader) line) (λ _. id⊢ 𝓤 _) (said-piece 𝓤 H A mem run κ (d .reader) line) (and-then ! (load ! (from ! (stop !)) (look ! 10 refl)) (and-then ! (load ! (from ! (stop !)) (look ! 8 refl)) (no-more !))) (λ u t e is.
         -- [what `take_piece` gave; the token; what d owns; _8; …; _3 at 13; …; _2 at 15; …; room for _0; …]
-        peeks ! (TakenPieceT κ) (Is (TakenPieceT κ)) (shows 𝓤 H A (TakenPieceT κ)) t (u ∷ []) (λ is.
         land ! (from ! (stop !)) (init ! 13 refl (LL.lawful (Q.the-type (αᵉ κ)) (Q′.the-laws (αᵉ κ)) 𝓤 H A W .typed t _ is .0)) $
         rewrite ! 13 (λ (w : Val). ‵ (fat fullShare (Q′.mir erased) l₃ 0 w)) (ap only (LL.tells (Q.the-type (α κ)) (Q′.the-laws (α κ)) t _ is)) refl $
         use1 W (‵ (ReaderT κ .own (t .reader) (T′.lowered (t .reader) ∷ []))) (reader-past 𝓤 H A W κ t u) $
         assigns ! (of-opd ! (load ! (from ! (fld ! refl (stop !))) (look-in ! 13 (sub ! 0 refl (whole !))))) (from ! (stop !)) (init ! 7 refl (tt, piece-typed 𝓤 H A W κ t u is .1 .0)) $
         assigns ! (of-opd ! (load ! (from ! (fld ! refl (stop !))) (look-in ! 13 (sub ! 1 refl (whole !))))) (from ! (stop !)) (init ! 3 refl (tt, piece-typed 𝓤 H A W κ t u is .1 .1 .0)) $
         use0 W (raw (FormPast 𝓤 H A mem run .pre (to-form 𝓤 H A mem run (d .form) (t .piece)))) (asks-form 𝓤 H A mem run (d .form) (t .piece) W (wt .1 .0 .0 .fits) (record { first = piece-typed 𝓤 H A W κ t u is .1 .1 .0 .1 .1 .0 .fits; second = piece-typed 𝓤 H A W κ t u is .1 .1 .0 .1 .1 .1 .0 .fits; third = piece-typed 𝓤 H A W κ t u is .1 .1 .0 .1 .1 .1 .1 .0 .fits })) $
-        calls-at ! fm (FormPast 𝓤 H A mem run) known-form (to-form 𝓤 H A mem run (d .form) (t .piece)) (and-then ! (load ! (from ! (stop !)) (look ! 16 refl)) (and-then ! (load ! (from ! (stop !)) (look ! 4 refl)) (no-more !))) (λ u′.
-        use1 W (later (some (λ (f : Form). (‵ ftrue ⊛ ‵ (Fm.the-row .own f (u′ ∷ []))) ⊛ raw (ensured 𝓤 H A form.ended (form.clauses 𝓤 H A mem run) tt (d .form, (t .piece, tt)) tt f)))) (id⊢ 𝓤 _) $ await ! tt $ pick ! (λ f.
-        split ! $ move ! (1 ∷ []) $ use1 W (raw (fact 𝓤 (f ≡ formPast (d .form) (t .piece)))) (said-form 𝓤 H A mem run (d .form) (t .piece) f) $ heard ! (f ≡ formPast (d .form) (t .piece)) (λ e′. split ! $ drop ! $
+        hears ! fm (FormPast 𝓤 H A mem run) known-form (to-form 𝓤 H A mem run (d .form) (t .piece)) Fm.the-row (‵ ftrue) (λ f. ensured 𝓤 H A form.ended (form.clauses 𝓤 H A mem run) tt (d .form, (t .piece, tt)) tt f) (λ f. f ≡ formPast (d .form) (t .piece)) (λ _. id⊢ 𝓤 _) (said-form 𝓤 H A mem run (d .form) (t .piece)) (and-then ! (load ! (from ! (stop !)) (look ! 16 refl)) (and-then ! (load ! (from ! (stop !)) (look ! 4 refl)) (no-more !))) (λ u′ f e′ is′.
+        move ! (1 ∷ []) $ drop ! $
         -- [the form; what the reader owns; the token; what d owns; _8; …; _7 at 6; …; room for _0; …]
-        peeks ! Fm.the-row (Is Fm.the-row) (shows 𝓤 H A Fm.the-row) f (u′ ∷ []) (λ is′.
         land ! (from ! (stop !)) (init ! 6 refl (LL.lawful Fm.the-type Fm′.the-laws 𝓤 H A W .typed f _ is′ .0)) $
         rewrite ! 6 (λ (w : Val). ‵ (fat fullShare Fm′.mir l₇ 0 w)) (ap only (LL.tells Fm.the-type Fm′.the-laws f _ is′)) refl $ drop ! $
         assigns ! (agg ! (and-then ! (load ! (from ! (stop !)) (look ! 7 refl)) (and-then ! (load ! (from ! (stop !)) (look ! 5 refl)) (no-more !)))) (from ! (stop !)) (init ! 19 refl (tt, (piece-typed 𝓤 H A W κ t u is .1 .0, (form-typed f u′ is′ .1, tt)))) $
         returns ! (look ! 19 refl) $ forget ! 3 refl $ forget ! 5 refl $ forget ! 7 refl $ forget ! 9 refl $ forget ! 11 refl $ forget ! 13 refl $ forget ! 15 refl $ forget ! 17 refl $ forget ! 19 refl $
         move ! (19 ∷ 20 ∷ []) $ free1 ! $ move ! (17 ∷ 18 ∷ []) $ free1 ! $ move ! (15 ∷ 16 ∷ []) $ free1 ! $ move ! (13 ∷ 14 ∷ []) $ free1 ! $ move ! (11 ∷ 12 ∷ []) $ free1 ! $ move ! (9 ∷ 10 ∷ []) $ free1 ! $ move ! (7 ∷ 8 ∷ []) $ free1 ! $ move ! (5 ∷ 6 ∷ []) $ free1 ! $ move ! (3 ∷ 4 ∷ []) $ free1 ! $ free0 ! $
-        by ! (exits t f (form-typed f u′ is′ .1 .0 .fits) (ap (made t) e′ ∙ ap (λ (x : TakenPiece). made x (formPast (d .form) (x .piece))) e)))))))))))))))))))
+        by ! (exits t f (form-typed f u′ is′ .1 .0 .fits) (ap (made t) e′ ∙ ap (λ (x : TakenPiece). made x (formPast (d .form) (x .piece))) e)))))))))))))
 
 module _ {M : Type 1} (𝓤 : URA M) (H : Heap 𝓤) (A : Atoms 𝓤) (W : Given 𝓤 H A) (mem : Memory → SProp 𝓤) (run : Routine → Fun 𝓤) where
   pass-walks : (C : Calls 𝓤 H) (Λ : Loops 𝓤 H) → FmC 𝓤 H (W .laws) C → Triple 𝓤 (C #fileform·reader·take-piece) (Piece 𝓤 H A mem run) → Triple 𝓤 (C #fileform·walk·form-past) (FormPast 𝓤 H A mem run)

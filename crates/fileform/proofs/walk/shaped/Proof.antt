@@ -32,7 +32,7 @@ use denote.Slice.{sliceTy, sliceVal, ShrSlice, slice-vals, shr-slice-tells, shr-
 use denote.Steps.{owned, peeks, heard, nothing, only}
 use denote.Struct.Laws as LL
 use denote.Triple.Statement.{Contract, Triple}
-use denote.Triple.Call.{calls-at, calls-at-last}
+use denote.Triple.Call.{calls-at-last}
 use denote.Triple.Entry.{Vals, onEntry}
 use denote.Triple.Spec.{Meets, tripleOf}
 use denote.Triple.Table.{entered, cited}
@@ -44,7 +44,7 @@ use Rattle.fileform.specs.Walk.{passedOn}
 use Rattle.fileform.specs.declared.reader.Reader.{Reader}
 use Rattle.fileform.specs.declared.walk.Pass.{Pass}
 use Rattle.fileform.proofs.HeldLaws.{α, αᵉ, ReaderT, PassT, zero-fits, reader-typed, reader-told, pass-typed, pass-held}
-use Rattle.fileform.proofs.RunLaws.{tests, whiles}
+use Rattle.fileform.proofs.RunLaws.{tests, whiles, hears}
 use Rattle.fileform.proofs.PassLaws.{toCome, Along, along-start, along-on, less-on, along-end}
 use Rattle.fileform.proofs.reader.Reader as T
 use Rattle.fileform.proofs.reader.Reader.Laws as T′
@@ -148,11 +148,8 @@ module _ {M : Type 1} (𝓤 : URA M) (H : Heap 𝓤) (A : Atoms 𝓤) (W : Given
         alloc1 ! (λ l₀. alloc1 ! (λ l₁. alloc1 ! (λ l₂. alloc1 ! (λ l₃. alloc1 ! (λ l₄. alloc1 ! (λ l₅. alloc1 ! (λ l₆. alloc0 ! $ params1 ! $
         pass1 ! (init ! 10 refl (shr-slice-lawful 𝓤 H A W (named 0) κ u8 .typed s (v ∷ []) p .0)) $ pass0 ! $
         move ! (14 ∷ []) $ use1 W (raw (New 𝓤 H A mem run .pre to-new) ⊛ ‵ Own) goes-new $ split ! $
-        calls-at ! (fmOf 𝓤 H (W .laws) 𝓣) (New 𝓤 H A mem run) known-new to-new (and-then ! (load ! (from ! (stop !)) (look ! 12 refl)) (and-then ! (lit ! tt) (no-more !))) (λ u.
-        use1 W (later (some (λ (r : Reader). ((‵ (flft κ q) ⊛ ‵ ftrue) ⊛ ‵ (ReaderT κ .own r (u ∷ []))) ⊛ raw (ensured 𝓤 H A new.ended (new.clauses 𝓤 H A mem run) (κ, tt) (s, (0, tt)) tt r)))) (id⊢ 𝓤 _) $ await ! tt $ pick ! (λ r.
-        split ! $ move ! (1 ∷ []) $ use1 W (raw (fact 𝓤 ((r .bytes ≡ s) × (r .at ≡ 0)))) (new-said r) $ heard ! ((r .bytes ≡ s) × (r .at ≡ 0)) (λ e. split ! $ move ! (1 ∷ []) $
+        hears ! (fmOf 𝓤 H (W .laws) 𝓣) (New 𝓤 H A mem run) known-new to-new (ReaderT κ) (‵ (flft κ q) ⊛ ‵ ftrue) (λ r. ensured 𝓤 H A new.ended (new.clauses 𝓤 H A mem run) (κ, tt) (s, (0, tt)) tt r) (λ r. (r .bytes ≡ s) × (r .at ≡ 0)) (λ _. id⊢ 𝓤 _) new-said (and-then ! (load ! (from ! (stop !)) (look ! 12 refl)) (and-then ! (lit ! tt) (no-more !))) (λ u r e is.
         -- [what the reader owns; the token; what s owns; _6; …; _5; …; _4 at 7; …; _3 at 9; …; _2 at 11; …; _1; …; room for _0; …]
-        peeks ! (ReaderT κ) (Is (ReaderT κ)) (shows 𝓤 H A (ReaderT κ)) r (u ∷ []) (λ is.
         land ! (from ! (stop !)) (init ! 9 refl (reader-typed 𝓤 H A W κ r u is)) $
         rewrite ! 9 (λ (w : Val). ‵ (fat fullShare (T′.mir erased) l₃ 0 w)) (ap only (LL.tells (T.the-type (α κ)) (T′.the-laws (α κ)) r _ is)) refl $
         rewrite ! 0 (λ (w : Val). ‵ (ReaderT κ .own r (w ∷ []))) (ap only (LL.tells (T.the-type (α κ)) (T′.the-laws (α κ)) r _ is)) refl $
@@ -175,7 +172,7 @@ module _ {M : Type 1} (𝓤 : URA M) (H : Heap 𝓤) (A : Atoms 𝓤) (W : Given
         by ! (goes (record { pass = r′; is = LL.owes (S.the-type (α κ)) (S′.the-laws (α κ)) r′ (LL.owed (S.the-type (α κ)) (S′.the-laws (α κ)) r′ _ is′); along = along-on s (t .pass) (t .along) on-turn r′ e′ }) (less-on s (t .pass) (t .along) on-turn r′ e′) .prf))))))
         (λ off. leaves _ (assigns ! (of-opd ! (load ! (from ! (fld ! refl (fld ! refl (stop !)))) (look-in ! 11 (sub ! 2 refl (sub ! 1 refl (whole !)))))) (from ! (stop !)) (init ! 15 refl (tt, tt)) $
         returns ! (look ! 15 refl) $ forget ! 5 refl $ forget ! 11 refl $ forget ! 13 refl $ forget ! 15 refl $
-        move ! (15 ∷ 16 ∷ []) $ free1 ! $ move ! (13 ∷ 14 ∷ []) $ free1 ! $ move ! (11 ∷ 12 ∷ []) $ free1 ! $ move ! (9 ∷ 10 ∷ []) $ free1 ! $ move ! (7 ∷ 8 ∷ []) $ free1 ! $ move ! (5 ∷ 6 ∷ []) $ free1 ! $ move ! (3 ∷ 4 ∷ []) $ free1 ! $ free0 ! $ drop ! $ by ! (exits (t .pass .form .fit) (along-end s (t .pass) (t .along) off))))) (record { pass = start r; is = at-start; along = along-start s r (e .0) (e .1) })))))))))))))
+        move ! (15 ∷ 16 ∷ []) $ free1 ! $ move ! (13 ∷ 14 ∷ []) $ free1 ! $ move ! (11 ∷ 12 ∷ []) $ free1 ! $ move ! (9 ∷ 10 ∷ []) $ free1 ! $ move ! (7 ∷ 8 ∷ []) $ free1 ! $ move ! (5 ∷ 6 ∷ []) $ free1 ! $ move ! (3 ∷ 4 ∷ []) $ free1 ! $ free0 ! $ drop ! $ by ! (exits (t .pass .form .fit) (along-end s (t .pass) (t .along) off))))) (record { pass = start r; is = at-start; along = along-start s r (e .0) (e .1) }))))))))))
 
 module _ {M : Type 1} (𝓤 : URA M) (H : Heap 𝓤) (A : Atoms 𝓤) (W : Given 𝓤 H A) (mem : Memory → SProp 𝓤) (run : Routine → Fun 𝓤) where
   shaped-walks : (𝓣 : Tables 𝓤 H) → Triple 𝓤 (𝓣 .C #fileform·reader·new) (New 𝓤 H A mem run) → Triple 𝓤 (𝓣 .C #fileform·walk·pass-on) (PassOn 𝓤 H A mem run)
