@@ -1,5 +1,5 @@
 // A list as rows, one to a line: a letter for what to do, and up to fourteen figures. A figure is a letter, which counts as its
-// byte, or a number, decimal or, after 'x', hexadecimal. '#' starts a comment, and a line with nothing else is no row.
+// byte, or a number, decimal, below zero after '-', or hexadecimal after 'x'. '#' starts a comment, and a line with nothing else is no row.
 
 // In a table a row is sixteen numbers: its line in the text, counted from 1, its letter and its figures.
 const WIDTH: usize = 16;
@@ -32,6 +32,7 @@ struct Scan {
     line: u64,
     inside: bool,
     hexadecimal: bool,
+    negative: bool,
     comment: bool,
     value: u64,
 }
@@ -43,6 +44,7 @@ fn begin() -> Scan {
         line: 1,
         inside: false,
         hexadecimal: false,
+        negative: false,
         comment: false,
         value: 0,
     }
@@ -51,6 +53,21 @@ fn begin() -> Scan {
 // The low 32 bits.
 pub fn low(x: u64) -> u32 {
     (x % 4294967296) as u32
+}
+
+// A number below zero stands in a row as 2^64 less its size.
+pub fn signed(x: u64) -> i64 {
+    if x < 9223372036854775808 {
+        return x as i64;
+    }
+    !(((18446744073709551615 - x) % 9223372036854775808) as i64)
+}
+
+pub fn signed_low(x: u64) -> i32 {
+    if x < 2147483648 {
+        return x as i32;
+    }
+    !(((18446744073709551615 - x) % 2147483648) as i32)
 }
 
 // The byte of a letter.
@@ -75,10 +92,18 @@ fn longer(value: u64, hexadecimal: bool, b: u8) -> u64 {
 
 // The value of a figure's first byte.
 fn first(b: u8) -> u64 {
-    if b <= b'9' {
-        return digit(b);
+    if (b == b'x') | (b == b'-') {
+        return 0;
     }
-    if b == b'x' { 0 } else { b as u64 }
+    if b <= b'9' { digit(b) } else { b as u64 }
+}
+
+fn figure(value: u64, negative: bool) -> u64 {
+    if negative {
+        std::num::wrapping_sub_u64(0, value)
+    } else {
+        value
+    }
 }
 
 fn within(s: Scan, b: u8) -> Scan {
@@ -89,6 +114,7 @@ fn within(s: Scan, b: u8) -> Scan {
     }
     t.inside = true;
     t.hexadecimal = b == b'x';
+    t.negative = b == b'-';
     t.value = first(b);
     t
 }
@@ -111,7 +137,7 @@ fn ended(table: &mut [u64], s: Scan) -> Scan {
     if s.inside {
         t.column = std::num::wrapping_add_usize(s.column, 1);
         store(table, s.row, 0, s.line);
-        store(table, s.row, t.column, s.value);
+        store(table, s.row, t.column, figure(s.value, s.negative));
     }
     t
 }

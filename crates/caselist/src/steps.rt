@@ -1,12 +1,13 @@
 // The steps that make a book: each must be done.
 use crate::rows::Row;
 use crate::rows::low;
-use crate::words::entry;
+use crate::words::of_kind;
 use crate::words::put;
+use crate::words::put_entry;
 
 // Type and counterparty as the kind 3 word has them.
-pub fn named(entry_type: u32, counterparty: u32) -> u32 {
-    entry_type % 256 + 256 * (counterparty % 1000)
+pub fn named(entry_type: u64, counterparty: u64) -> u64 {
+    entry_type % 256 + 256 * (counterparty % 65536)
 }
 
 // Party, day, type, counterparty and amount are the first five figures.
@@ -19,19 +20,18 @@ fn posted(book: &mut [u32], r: Row) -> bool {
     got.answer == 0
 }
 
-// The words of one entry as many times as the sixth figure says.
-fn entries(book: &mut [u32], r: Row) {
-    let n = low(r.f);
+// One entry n times.
+fn entries(book: &mut [u32], n: u32, party: u64, day: u64, figures: u64, amount: u64) {
     let mut i: u32 = 0;
     while i < n {
-        entry(book, i, low(r.a), low(r.b), named(low(r.c), low(r.d)), r.e);
+        put_entry(book, i, party, day, figures, amount);
         i += 1;
     }
 }
 
 fn fill(book: &mut [u32], r: Row) -> bool {
-    put(book, 0, 0x60000000 + low(r.f) % 4096);
-    entries(book, r);
+    put(book, 0, of_kind(6, r.f));
+    entries(book, low(r.f), r.a, r.b, named(r.c, r.d), r.e);
     true
 }
 
@@ -44,7 +44,18 @@ fn put_word(book: &mut [u32], r: Row) -> bool {
     false
 }
 
-// O: open; P: post; M: the test writes entries and their count; W: withdraw; K: the test writes a word.
+// M: the test writes entries and their count; K: it writes a word.
+fn written(book: &mut [u32], r: Row) -> bool {
+    if r.call == b'M' {
+        return fill(book, r);
+    }
+    if r.call == b'K' {
+        return put_word(book, r);
+    }
+    false
+}
+
+// O: open; P: post; W: withdraw.
 pub fn make(book: &mut [u32], r: Row) -> bool {
     if r.call == b'O' {
         return book::open(book, low(r.a), low(r.b)) == 0;
@@ -52,14 +63,8 @@ pub fn make(book: &mut [u32], r: Row) -> bool {
     if r.call == b'P' {
         return posted(book, r);
     }
-    if r.call == b'M' {
-        return fill(book, r);
-    }
     if r.call == b'W' {
         return book::withdraw(book, low(r.a)) == 0;
     }
-    if r.call == b'K' {
-        return put_word(book, r);
-    }
-    false
+    written(book, r)
 }

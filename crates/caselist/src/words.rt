@@ -24,19 +24,38 @@ pub fn same(book: &[u32], shadow: &[u32]) -> bool {
     true
 }
 
-fn amount_words(words: &mut [u32], at: u32, amount: u64) {
-    let place = at as usize;
-    let a = amount % 1000000000001;
-    put(words, place, 0x40000000 + (a % 268435456) as u32);
-    put(words, place + 1, 0x50000000 + (a / 268435456) as u32);
+// A word of this kind.
+pub fn of_kind(kind: u32, value: u64) -> u32 {
+    kind % 16 * 0x10000000 + (value % 0x10000000) as u32
 }
 
-// The five words of a standing entry, by its number; its type and its counterparty are one figure.
-pub fn entry(words: &mut [u32], number: u32, party: u32, day: u32, figures: u32, amount: u64) {
-    let at = 3 + 5 * (number % 4096);
-    let place = at as usize;
-    put(words, place, 0x10000000 + party % 1000);
-    put(words, place + 1, 0x20000000 + day % 36525);
-    put(words, place + 2, 0x30000000 + figures % 0x01000000);
-    amount_words(words, at + 3, amount);
+// The words of party, day and type of an entry, by its number, and those of its amount.
+pub fn put_key(words: &mut [u32], number: u32, party: u32, day: u32, figures: u32) {
+    let at = 3 + 5 * (number as usize);
+    put(words, at, party);
+    put(words, at + 1, day);
+    put(words, at + 2, figures);
+}
+
+pub fn put_amount(words: &mut [u32], number: u32, low: u32, high: u32) {
+    let at = 6 + 5 * (number as usize);
+    put(words, at, low);
+    put(words, at + 1, high);
+}
+
+// A standing entry; its type and counterparty are one figure.
+pub fn put_entry(words: &mut [u32], number: u32, party: u64, day: u64, figures: u64, amount: u64) {
+    put_key(
+        words,
+        number,
+        of_kind(1, party),
+        of_kind(2, day),
+        of_kind(3, figures),
+    );
+    put_amount(
+        words,
+        number,
+        of_kind(4, amount),
+        of_kind(5, amount / 268435456),
+    );
 }

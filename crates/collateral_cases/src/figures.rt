@@ -1,6 +1,7 @@
 // A case by its figures: a letter says which figure a number is (01, 'Collateral').
 use caselist::rows::letter;
 use caselist::rows::low;
+use caselist::rows::signed;
 use rules::Case;
 use rules::Month;
 
@@ -89,26 +90,14 @@ pub fn with(case: Case, letter_of: u64, value: u64) -> Case {
     of_yek(case, name, value)
 }
 
-fn below_zero(x: u64) -> i64 {
-    -1 - ((x % 9223372036854775808) as i64)
-}
-
-// A figure by its sign, 1 for minus, and its size.
-fn signed(minus: u64, size: u64) -> i64 {
-    if minus == 0 {
-        return (size % 9223372036854775808) as i64;
-    }
-    if size == 0 { 0 } else { below_zero(size - 1) }
-}
-
 // The case with a month answer at this place.
-pub fn with_month(case: Case, place: u64, aosmf: u64, minus: u64, size: u64) -> Case {
+pub fn with_month(case: Case, place: u64, aosmf: u64, aedm: u64) -> Case {
     let group = case.group;
     let mut months = group.months;
     let at = (place % 3) as usize;
     months[at] = Month {
         aosmf,
-        aedm: signed(minus, size),
+        aedm: signed(aedm),
     };
     case.with_months(months)
 }

@@ -52,7 +52,7 @@ fn of_case(r: Row, case: Case) -> Case {
         return with(two(second, r.i, r.j, r.k, r.l), r.m, r.n);
     }
     if r.call == b'A' {
-        return figures::with_month(case, r.a, r.b, r.c, r.d);
+        return figures::with_month(case, r.a, r.b, r.c);
     }
     case
 }

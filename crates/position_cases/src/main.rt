@@ -1,43 +1,29 @@
 // Both balances and the tally against the list on standard input, whose figures are worked out by hand from document 01.
-mod list;
-
-use libc::STDIN_FILENO;
-use libc::STDOUT_FILENO;
-use list::Line;
-
-// How many words are lent, how many answers were compared, and how many of them differ.
-struct State {
-    lent: usize,
-    checks: u64,
-    wrong: u64,
-}
-
-fn told(s: State, ok: bool) -> State {
-    State {
-        lent: s.lent,
-        checks: std::num::wrapping_add_u64(s.checks, 1),
-        wrong: std::num::wrapping_add_u64(s.wrong, !ok as u64),
-    }
-}
+use caselist::rows::Row;
+use caselist::rows::low;
+use caselist::score::Score;
+use caselist::score::told;
+use rules::BalanceAnswer;
+use rules::TallyAnswer;
 
 // The answer, the balance by sign and size, and whether it is detected.
-fn is_answer(got: rules::BalanceAnswer, l: Line) -> bool {
+fn is_answer(got: BalanceAnswer, r: Row) -> bool {
     (got.answer == 0)
-        & ((got.balance < 0) == (list::at(l, 3) == 1))
-        & (numbers::magnitude(got.balance) == list::wide(l, 4))
-        & (position::detected(got.balance) == (list::at(l, 5) == 1))
+        & ((got.balance < 0) == (r.c == 1))
+        & (numbers::magnitude(got.balance) == r.d)
+        & (position::detected(got.balance) == (r.e == 1))
 }
 
-fn day_ahead(book: &[u32], l: Line) -> bool {
-    is_answer(position::day_ahead(book, list::at(l, 1), list::at(l, 2)), l)
+fn day_ahead(book: &[u32], r: Row) -> bool {
+    is_answer(position::day_ahead(book, low(r.a), low(r.b)), r)
 }
 
-fn delivery(book: &[u32], l: Line) -> bool {
-    is_answer(position::delivery(book, list::at(l, 1), list::at(l, 2)), l)
+fn delivery(book: &[u32], r: Row) -> bool {
+    is_answer(position::delivery(book, low(r.a), low(r.b)), r)
 }
 
 // The sum of a type, or B where the type is 0.
-fn sum(got: rules::TallyAnswer, entry_type: usize) -> u64 {
+fn sum(got: TallyAnswer, entry_type: usize) -> u64 {
     let t = got.tally;
     let sums = t.sums;
     if entry_type == 0 {
@@ -49,16 +35,13 @@ fn sum(got: rules::TallyAnswer, entry_type: usize) -> u64 {
     0
 }
 
-fn tally(book: &[u32], l: Line) -> bool {
-    let got = position::tally(book, list::at(l, 1), list::at(l, 2));
+fn has_sum(got: TallyAnswer, r: Row) -> bool {
     let t = got.tally;
-    (got.answer == 0)
-        & (t.party == list::at(l, 1))
-        & (sum(got, list::at(l, 3) as usize) == list::wide(l, 4))
+    (got.answer == 0) & (t.party as u64 == r.a) & (sum(got, low(r.c) as usize) == r.d)
 }
 
 // Each sum and B, from the first to the last, are what they were: none.
-fn is_empty(got: rules::TallyAnswer) -> bool {
+fn is_empty(got: TallyAnswer) -> bool {
     let mut empty = true;
     let mut i = 0;
     while i < 17 {
@@ -68,188 +51,99 @@ fn is_empty(got: rules::TallyAnswer) -> bool {
     empty
 }
 
-fn nothing(book: &[u32], l: Line) -> bool {
-    let got = position::tally(book, list::at(l, 1), list::at(l, 2));
+fn has_none(got: TallyAnswer, r: Row) -> bool {
     let t = got.tally;
-    (got.answer == 0) & (t.party == list::at(l, 1)) & is_empty(got)
+    (got.answer == 0) & (t.party as u64 == r.a) & is_empty(got)
+}
+
+fn tally(book: &[u32], r: Row) -> TallyAnswer {
+    position::tally(book, low(r.a), low(r.b))
 }
 
 // The cause of a refusal; every other figure is zero.
-fn tally_refused(book: &[u32], l: Line) -> bool {
-    let got = position::tally(book, list::at(l, 1), list::at(l, 2));
+fn tally_refused(book: &[u32], r: Row) -> bool {
+    let got = tally(book, r);
     let t = got.tally;
-    (got.answer == list::at(l, 3)) & (t.party == 0) & is_empty(got)
+    (got.answer as u64 == r.c) & (t.party == 0) & is_empty(got)
 }
 
-fn day_ahead_refused(book: &[u32], l: Line) -> bool {
-    let got = position::day_ahead(book, list::at(l, 1), list::at(l, 2));
-    (got.answer == list::at(l, 3)) & (got.balance == 0)
+fn is_refused(got: BalanceAnswer, r: Row) -> bool {
+    (got.answer as u64 == r.c) & (got.balance == 0)
 }
 
-fn delivery_refused(book: &[u32], l: Line) -> bool {
-    let got = position::delivery(book, list::at(l, 1), list::at(l, 2));
-    (got.answer == list::at(l, 3)) & (got.balance == 0)
+fn day_ahead_refused(book: &[u32], r: Row) -> bool {
+    is_refused(position::day_ahead(book, low(r.a), low(r.b)), r)
 }
 
-fn refused(book: &[u32], l: Line, s: State) -> State {
-    let t = told(s, tally_refused(book, l));
-    let u = told(t, day_ahead_refused(book, l));
-    told(u, delivery_refused(book, l))
+fn delivery_refused(book: &[u32], r: Row) -> bool {
+    is_refused(position::delivery(book, low(r.a), low(r.b)), r)
 }
 
-// What a line asks of the book.
-fn asked(book: &[u32], l: Line, s: State) -> State {
-    let call = list::at(l, 0);
-    if call == b'D' as u32 {
-        return told(s, day_ahead(book, l));
+// What a row asks of one call.
+fn asked(book: &mut [u32], r: Row) -> bool {
+    if r.call == b'D' {
+        return day_ahead(book, r);
     }
-    if call == b'E' as u32 {
-        return told(s, delivery(book, l));
+    if r.call == b'E' {
+        return delivery(book, r);
     }
-    if call == b'B' as u32 {
-        return told(told(s, day_ahead(book, l)), delivery(book, l));
+    if r.call == b'S' {
+        return has_sum(tally(book, r), r);
     }
-    if call == b'S' as u32 {
-        return told(s, tally(book, l));
+    if r.call == b'N' {
+        return has_none(tally(book, r), r);
     }
-    if call == b'N' as u32 {
-        return told(s, nothing(book, l));
-    }
-    if call == b'X' as u32 {
-        return refused(book, l, s);
-    }
-    told(s, false)
+    caselist::steps::make(book, r)
 }
 
-fn post(book: &mut [u32], l: Line) -> bool {
-    let got = book::post(
-        book,
-        list::at(l, 1),
-        list::at(l, 2),
-        list::at(l, 3),
-        list::at(l, 4),
-        list::wide(l, 5),
-    );
-    got.answer == 0
+fn both(book: &[u32], r: Row, s: Score) -> Score {
+    let t = told(s, r.line, day_ahead(book, r));
+    told(t, r.line, delivery(book, r))
 }
 
-// A word that no call writes.
-fn set(book: &mut [u32], i: usize, word: u32) -> bool {
-    if i < book.len() {
-        book[i] = word;
-        return true;
-    }
-    false
+fn all_refused(book: &[u32], r: Row, s: Score) -> Score {
+    let t = told(s, r.line, tally_refused(book, r));
+    let u = told(t, r.line, day_ahead_refused(book, r));
+    told(u, r.line, delivery_refused(book, r))
 }
 
-// The five words of a standing entry.
-fn write(book: &mut [u32], number: u32, l: Line) -> bool {
-    let at = 3 + 5 * (number as usize);
-    let named = list::at(l, 3) % 256 + 256 * (list::at(l, 4) % 1000);
-    let amount = list::wide(l, 5) % 1000000000001;
-    set(book, at, 0x10000000 + list::at(l, 1) % 1000)
-        & set(book, at + 1, 0x20000000 + list::at(l, 2) % 65536)
-        & set(book, at + 2, 0x30000000 + named)
-        & set(book, at + 3, 0x40000000 + (amount % 268435456) as u32)
-        & set(book, at + 4, 0x50000000 + (amount / 268435456) as u32)
+fn step(book: &mut [u32], r: Row, s: Score) -> Score {
+    if r.call == b'B' {
+        return both(book, r, s);
+    }
+    if r.call == b'X' {
+        return all_refused(book, r, s);
+    }
+    told(s, r.line, asked(book, r))
 }
 
-// A book of one entry as many times as the line says.
-fn fill(book: &mut [u32], l: Line) -> bool {
-    let n = list::at(l, 6);
-    let mut done = set(book, 0, 0x60000000 + n % 4096);
-    let mut i: u32 = 0;
-    while i < n {
-        done = done & write(book, i, l);
-        i += 1;
-    }
-    done
-}
-
-// What a line does to the book; each must be done.
-fn step(book: &mut [u32], l: Line, s: State) -> State {
-    let call = list::at(l, 0);
-    if call == b'O' as u32 {
-        return told(s, book::open(book, list::at(l, 1), list::at(l, 2)) == 0);
-    }
-    if call == b'P' as u32 {
-        return told(s, post(book, l));
-    }
-    if call == b'M' as u32 {
-        return told(s, fill(book, l));
-    }
-    if call == b'W' as u32 {
-        return told(s, book::withdraw(book, list::at(l, 1)) == 0);
-    }
-    if call == b'K' as u32 {
-        return told(s, set(book, list::at(l, 1) as usize, list::at(l, 2)));
-    }
-    asked(book, l, s)
-}
-
-fn lend(book: &mut [u32], l: Line, s: State) -> State {
+fn lend(book: &mut [u32], r: Row, s: Score) -> Score {
     let n = s.lent;
     if book.len() < n {
-        return told(s, false);
+        return told(s, r.line, false);
     }
-    step(&mut book[..n], l, s)
+    step(&mut book[..n], r, s)
 }
 
-// Writes a group's counts: how many checks, and how many of them wrong.
-fn report(group: u64, s: State) -> State {
-    io::write_all(STDOUT_FILENO, b"group ");
-    io::print_decimal(STDOUT_FILENO, group);
-    io::write_all(STDOUT_FILENO, b": ");
-    io::print_decimal(STDOUT_FILENO, s.checks);
-    io::write_all(STDOUT_FILENO, b" checks, ");
-    io::print_decimal(STDOUT_FILENO, s.wrong);
-    io::write_all(STDOUT_FILENO, b" wrong\n");
-    State {
-        lent: s.lent,
-        checks: 0,
-        wrong: 0,
+fn line(book: &mut [u32], r: Row, s: Score) -> Score {
+    if caselist::score::is_setting(r) {
+        return caselist::score::set(s, r);
     }
+    lend(book, r, s)
 }
 
-// A whole line: nothing, the end of a group, how many words are lent, or a step.
-fn line(book: &mut [u32], l: Line, s: State) -> State {
-    let call = list::at(l, 0);
-    if call == 0 {
-        return s;
-    }
-    if call == b'G' as u32 {
-        return report(list::wide(l, 1), s);
-    }
-    if call == b'L' as u32 {
-        let mut t = s;
-        t.lent = list::at(l, 1) as usize;
-        return t;
-    }
-    lend(book, l, s)
-}
-
-fn run(text: &[u8], book: &mut [u32]) {
-    let mut s = State {
-        lent: 0,
-        checks: 0,
-        wrong: 0,
-    };
-    let mut l = list::empty();
+fn run(table: &[u64], rows: usize, book: &mut [u32]) {
+    let mut s = caselist::score::none();
     let mut i = 0;
-    while i < text.len() {
-        if text[i] == b'\n' {
-            s = line(book, l, s);
-            l = list::empty();
-        } else {
-            l = list::fed(l, text[i]);
-        }
+    while i < rows {
+        s = line(book, caselist::rows::row_at(table, i), s);
         i += 1;
     }
 }
 
 fn main() {
-    let mut text = [0u8; 65536];
-    let n = io::read_full(STDIN_FILENO, &mut text);
+    let mut table = [0u64; 16000];
+    let rows = caselist::rows::read(&mut table);
     let mut book = [0u32; 15363];
-    run(&text[..n], &mut book);
+    run(&table, rows, &mut book);
 }

@@ -1,4 +1,4 @@
--- `book_cases::lend` meets its contract. Assumes nothing.
+-- `book_cases::lend` is safe and ends. Assumes nothing.
 use mathlib.Core.Path.{sym}
 use native.Mathlib.Omega.{arith}
 use lib.Seq.{length-take-le}
@@ -24,7 +24,7 @@ slice-relend-prefix-compared c = search needs
 slice-aggregate-compared : tie.Need-slice-aggregate-compared
 slice-aggregate-compared c =
     let a = c .before .before .before .before .before .args in
-    sym (length-take-le (a .n) (a .book .now) (omega arith))
+    sym (length-take-le (a .s .lent) (a .book .now) (omega arith))
 
 slice-relend-prefix-compared-2 : tie.Need-slice-relend-prefix-compared-2
 slice-relend-prefix-compared-2 c = search needs
@@ -32,7 +32,7 @@ slice-relend-prefix-compared-2 c = search needs
 slice-aggregate-compared-2 : tie.Need-slice-aggregate-compared-2
 slice-aggregate-compared-2 c =
     let a = c .before .before .before .before .before .before .args in
-    sym (length-take-le (a .n) (a .shadow .now) (omega arith))
+    sym (length-take-le (a .s .lent) (a .shadow .now) (omega arith))
 
 compared-requires : tie.Need-compared-requires
 compared-requires c κs = search needs

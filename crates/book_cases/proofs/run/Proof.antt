@@ -1,4 +1,4 @@
--- `book_cases::run` meets its contract. The loop's invariant: both slices keep their lengths. Assumes nothing.
+-- `book_cases::run` is safe and ends. The loop's invariant: both slices keep their lengths. Assumes nothing.
 use mathlib.Core.Path.{_≡_}
 use Prim.Native.Nat.{_≤_, _-_}
 use lib.ListN.{length}
@@ -12,14 +12,17 @@ Inv-loop table rows book₀ shadow₀ s₀ i₀ book shadow s i = (i ≤ rows) �
 abbrev μ-loop : tie.MeasureT-loop
 μ-loop table rows book₀ shadow₀ s₀ i₀ book shadow s i = rows - i
 
+none-requires : tie.Need-none-requires Inv-loop μ-loop
+none-requires c κs = search needs
+
 loop-holds : tie.Need-loop-holds Inv-loop μ-loop
 loop-holds c = search needs
 
 row-at-requires : tie.Need-row-at-requires Inv-loop μ-loop
 row-at-requires c κs = search needs
 
-step-requires : tie.Need-step-requires Inv-loop μ-loop
-step-requires c κs = search needs
+line-requires : tie.Need-line-requires Inv-loop μ-loop
+line-requires c κs = search needs
 
 add-i : tie.Need-add-i Inv-loop μ-loop
 add-i c = search needs
@@ -45,9 +48,10 @@ run-spec =
     (tie.spec
     Inv-loop
     μ-loop
+    none-requires
     loop-holds
     row-at-requires
-    step-requires
+    line-requires
     add-i
     loop-less
     loop-again

@@ -1,25 +1,16 @@
--- `book_cases::plain` meets its contract. The loop's invariant: the slice keeps its length. Assumes nothing.
+-- `book_cases::writes::plain_entries` is safe and ends. The loop's invariant: the slice keeps its length. Assumes nothing.
 use mathlib.Core.Path.{_≡_}
 use Prim.Native.Nat.{_≤_, _-_}
 use lib.ListN.{length}
 use borrow.Author.Needs.{needs}
-use Rattle.book_cases.proofs.plain.Statement.{statement}
-use Rattle.book_cases.proofs.plain.Tie as tie
+use Rattle.book_cases.proofs.writes.plain_entries.Statement.{statement}
+use Rattle.book_cases.proofs.writes.plain_entries.Tie as tie
 
 abbrev Inv-loop : tie.InvT-loop
-Inv-loop words₀ count n i₀ words i = (i ≤ n) × (length words ≡ length words₀)
+Inv-loop words₀ n i₀ words i = (i ≤ n) × (length words ≡ length words₀)
 
 abbrev μ-loop : tie.MeasureT-loop
-μ-loop words₀ count n i₀ words i = n - i
-
-low-requires : tie.Need-low-requires Inv-loop μ-loop
-low-requires c κs = search needs
-
-add-put : tie.Need-add-put Inv-loop μ-loop
-add-put c = search needs
-
-put-requires : tie.Need-put-requires Inv-loop μ-loop
-put-requires c κs = search needs
+μ-loop words₀ n i₀ words i = n - i
 
 loop-holds : tie.Need-loop-holds Inv-loop μ-loop
 loop-holds c = search needs
@@ -42,15 +33,12 @@ same-length c = search needs
 returns : tie.Need-returns Inv-loop μ-loop
 returns c = search needs
 
-pub plain-spec : {M : Type 1} → statement M
-plain-spec =
+pub plain-entries-spec : {M : Type 1} → statement M
+plain-entries-spec =
     tie.close
     (tie.spec
     Inv-loop
     μ-loop
-    low-requires
-    add-put
-    put-requires
     loop-holds
     plain-entry-requires
     add-i

@@ -1,34 +1,22 @@
--- `book_cases::rubbish` meets its contract. The loop's invariant: the slice keeps its length. Assumes nothing.
+-- `book_cases::writes::rubbish` is safe and ends. The loop's invariant: the slice keeps its length. Assumes nothing.
 use mathlib.Core.Path.{_≡_}
 use Prim.Native.Nat.{_≤_, _-_}
 use lib.ListN.{length}
 use borrow.Author.Needs.{needs}
-use Rattle.book_cases.proofs.rubbish.Statement.{statement}
-use Rattle.book_cases.proofs.rubbish.Tie as tie
+use Rattle.book_cases.proofs.writes.rubbish.Statement.{statement}
+use Rattle.book_cases.proofs.writes.rubbish.Tie as tie
 
 abbrev Inv-loop : tie.InvT-loop
-Inv-loop words₀ from count start n i₀ words i = (i ≤ n) × (length words ≡ length words₀)
+Inv-loop words₀ start n first end i₀ words i = (i ≤ end) × (length words ≡ length words₀)
 
 abbrev μ-loop : tie.MeasureT-loop
-μ-loop words₀ from count start n i₀ words i = n - i
+μ-loop words₀ start n first end i₀ words i = end - i
 
-low-requires : tie.Need-low-requires Inv-loop μ-loop
-low-requires c κs = search needs
-
-cast-start : tie.Need-cast-start Inv-loop μ-loop
-cast-start c = search needs
-
-low-requires-2 : tie.Need-low-requires-2 Inv-loop μ-loop
-low-requires-2 c κs = search needs
-
-cast-n : tie.Need-cast-n Inv-loop μ-loop
-cast-n c = search needs
+add-end : tie.Need-add-end Inv-loop μ-loop
+add-end c = search needs
 
 loop-holds : tie.Need-loop-holds Inv-loop μ-loop
 loop-holds c = search needs
-
-add-put : tie.Need-add-put Inv-loop μ-loop
-add-put c = search needs
 
 put-requires : tie.Need-put-requires Inv-loop μ-loop
 put-requires c κs = search needs
@@ -54,12 +42,8 @@ rubbish-spec =
     (tie.spec
     Inv-loop
     μ-loop
-    low-requires
-    cast-start
-    low-requires-2
-    cast-n
+    add-end
     loop-holds
-    add-put
     put-requires
     add-i
     loop-less

@@ -7,34 +7,16 @@ use Rattle.caselist.proofs.steps.entries.Statement.{statement}
 use Rattle.caselist.proofs.steps.entries.Tie as tie
 
 abbrev Inv-loop : tie.InvT-loop
-Inv-loop book₀ r n i₀ book i = (i ≤ n) × (length book ≡ length book₀)
+Inv-loop book₀ n party day figures amount i₀ book i = (i ≤ n) × (length book ≡ length book₀)
 
 abbrev μ-loop : tie.MeasureT-loop
-μ-loop book₀ r n i₀ book i = n - i
-
-low-requires : tie.Need-low-requires Inv-loop μ-loop
-low-requires c κs = search needs
+μ-loop book₀ n party day figures amount i₀ book i = n - i
 
 loop-holds : tie.Need-loop-holds Inv-loop μ-loop
 loop-holds c = search needs
 
-low-requires-2 : tie.Need-low-requires-2 Inv-loop μ-loop
-low-requires-2 c κs = search needs
-
-low-requires-3 : tie.Need-low-requires-3 Inv-loop μ-loop
-low-requires-3 c κs = search needs
-
-low-requires-4 : tie.Need-low-requires-4 Inv-loop μ-loop
-low-requires-4 c κs = search needs
-
-low-requires-5 : tie.Need-low-requires-5 Inv-loop μ-loop
-low-requires-5 c κs = search needs
-
-named-requires : tie.Need-named-requires Inv-loop μ-loop
-named-requires c κs = search needs
-
-entry-requires : tie.Need-entry-requires Inv-loop μ-loop
-entry-requires c κs = search needs
+put-entry-requires : tie.Need-put-entry-requires Inv-loop μ-loop
+put-entry-requires c κs = search needs
 
 add-i : tie.Need-add-i Inv-loop μ-loop
 add-i c = search needs
@@ -57,14 +39,8 @@ entries-spec =
     (tie.spec
     Inv-loop
     μ-loop
-    low-requires
     loop-holds
-    low-requires-2
-    low-requires-3
-    low-requires-4
-    low-requires-5
-    named-requires
-    entry-requires
+    put-entry-requires
     add-i
     loop-less
     loop-again

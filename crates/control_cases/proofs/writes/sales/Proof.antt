@@ -1,28 +1,22 @@
--- `control_cases::sales` is safe and ends. The loop's invariant: the slice keeps its length. Assumes nothing.
+-- `control_cases::writes::sales` is safe and ends. The loop's invariant: the slice keeps its length. Assumes nothing.
 use mathlib.Core.Path.{_≡_}
 use Prim.Native.Nat.{_≤_, _-_}
 use lib.ListN.{length}
 use borrow.Author.Needs.{needs}
-use Rattle.control_cases.proofs.sales.Statement.{statement}
-use Rattle.control_cases.proofs.sales.Tie as tie
+use Rattle.control_cases.proofs.writes.sales.Statement.{statement}
+use Rattle.control_cases.proofs.writes.sales.Tie as tie
 
 abbrev Inv-loop : tie.InvT-loop
-Inv-loop words₀ l n i₀ words i = (i ≤ n) × (length words ≡ length words₀)
+Inv-loop words₀ n day amount i₀ words i = (i ≤ n) × (length words ≡ length words₀)
 
 abbrev μ-loop : tie.MeasureT-loop
-μ-loop words₀ l n i₀ words i = n - i
-
-at-requires : tie.Need-at-requires Inv-loop μ-loop
-at-requires c κs = search needs
+μ-loop words₀ n day amount i₀ words i = n - i
 
 loop-holds : tie.Need-loop-holds Inv-loop μ-loop
 loop-holds c = search needs
 
 add-append : tie.Need-add-append Inv-loop μ-loop
 add-append c = search needs
-
-at-requires-2 : tie.Need-at-requires-2 Inv-loop μ-loop
-at-requires-2 c κs = search needs
 
 add-append-2 : tie.Need-add-append-2 Inv-loop μ-loop
 add-append-2 c = search needs
@@ -32,9 +26,6 @@ mul-append c = search needs
 
 add-append-3 : tie.Need-add-append-3 Inv-loop μ-loop
 add-append-3 c = search needs
-
-wide-requires : tie.Need-wide-requires Inv-loop μ-loop
-wide-requires c κs = search needs
 
 append-requires : tie.Need-append-requires Inv-loop μ-loop
 append-requires c κs = search needs
@@ -60,14 +51,11 @@ sales-spec =
     (tie.spec
     Inv-loop
     μ-loop
-    at-requires
     loop-holds
     add-append
-    at-requires-2
     add-append-2
     mul-append
     add-append-3
-    wide-requires
     append-requires
     add-i
     loop-less
