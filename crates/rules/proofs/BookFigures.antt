@@ -102,7 +102,7 @@ noBook = set shut 1 0x700003E9
 abbrev past : List ℕ
 past = set (usedWords 150 9 (recordOf (keyOf 0 9000 21 0) 0 0 ∷ recordOf (keyOf 1 9000 6 2) 0 50 ∷ [])) 0 0x60000001
 
--- calls with refused ones between: party 0, a withdrawal twice, an amount too large, no place free, no such entry
+-- calls with refused ones between: party 0, a withdrawal twice, an amount too large, no place free, no such entry, a day past the last when full
 abbrev calls : List Call
 calls =
     post (keyOf 0 9000 1 0) 5
@@ -113,10 +113,11 @@ calls =
     ∷ post toLast 1000000000
     ∷ post plain 5
     ∷ withdraw 2
+    ∷ post (keyOf 1 36525 1 0) 5
     ∷ []
 
 abbrev callAnswers : List ℕ
-callAnswers = 3 ∷ 0 ∷ 0 ∷ 0 ∷ 0 ∷ 0 ∷ 10 ∷ 0 ∷ 7 ∷ 0 ∷ 0 ∷ 1 ∷ 9 ∷ 0 ∷ 10 ∷ 0 ∷ []
+callAnswers = 3 ∷ 0 ∷ 0 ∷ 0 ∷ 0 ∷ 0 ∷ 10 ∷ 0 ∷ 7 ∷ 0 ∷ 0 ∷ 1 ∷ 9 ∷ 0 ∷ 10 ∷ 0 ∷ 4 ∷ 0 ∷ []
 
 pub bookFigures : List Bool
 bookFigures =
