@@ -11,18 +11,9 @@ pub unless-zero : (t : Bool) (n : ℕ) → unless t (suc n) ≡ 0 → t ≡ true
 unless-zero true n e = refl
 unless-zero false n e = absurd (suc-ne-zero n e)
 
-pub unless-pass : (t : Bool) (n : ℕ) → t ≡ true → unless t n ≡ 0
-unless-pass t n e = rw e
-
-pub unless-fail : (t : Bool) (n : ℕ) → t ≡ false → unless t n ≡ n
-unless-fail t n e = rw e
-
 pub else-split : (c later : ℕ) → orElse c later ≡ 0 → (c ≡ 0) × (later ≡ 0)
 else-split zero later e = (refl, e)
 else-split (suc n) later e = absurd (suc-ne-zero n e)
-
-pub else-skip : (c later : ℕ) → c ≡ 0 → orElse c later ≡ later
-else-skip c later e = rw e
 
 pub else-stop : (c later : ℕ) → (c ≡ 0 → ⊥) → orElse c later ≡ c
 else-stop zero later n = absurd (n refl)
@@ -41,10 +32,6 @@ pub clear-all : (cs : List ℕ) → firstOf cs ≡ 0 → Clear cs
 clear-all [] e = tt
 clear-all (c ∷ cs) e = let s = else-split c (firstOf cs) e in (s .0, clear-all cs (s .1))
 
-pub all-clear : (cs : List ℕ) → Clear cs → firstOf cs ≡ 0
-all-clear [] h = refl
-all-clear (c ∷ cs) h = else-skip c (firstOf cs) (h .0) ∙ all-clear cs (h .1)
-
 -- the first cause of two lists in turn
 pub first-append : (cs ds : List ℕ) → firstOf (cs ++ ds) ≡ orElse (firstOf cs) (firstOf ds)
 first-append [] ds = refl
@@ -52,21 +39,9 @@ first-append (zero ∷ cs) ds = first-append cs ds
 first-append (suc n ∷ cs) ds = refl
 
 module _ {ℓ} {A : Type ℓ} where
-  pub done-same : (c : ℕ) (x : A) → ifDone c x x ≡ x
-  done-same zero x = refl
-  done-same (suc n) x = refl
-
   pub done-zero : (c : ℕ) (new old : A) → c ≡ 0 → ifDone c new old ≡ new
   done-zero c new old e = rw e
-
-  pub done-suc : (c k : ℕ) (new old : A) → c ≡ suc k → ifDone c new old ≡ old
-  done-suc c k new old e = rw e
 
   pub done-else : (c : ℕ) (new old : A) → c ≢ 0 → ifDone c new old ≡ old
   done-else zero new old h = absurd (h refl)
   done-else (suc k) new old h = refl
-
--- a function of what a call leaves
-pub done-ap {ℓ κ} : {A : Type ℓ} {B : Type κ} (f : A → B) (c : ℕ) (new old : A) → f (ifDone c new old) ≡ ifDone c (f new) (f old)
-done-ap f zero new old = refl
-done-ap f (suc k) new old = refl

@@ -46,39 +46,12 @@ sub-eq a b c d e = go (below-or-above a b) (below-or-above c d)
     go (inr p) (inl q) = absurd (omega arith)
     go (inr p) (inr q) = rw (sub-above a b p, sub-above c d q) (ap pos (omega arith))
 
-pub sub-add : (a b c d : ℕ) → subℕ a b +ℤ subℕ c d ≡ subℕ (a + c) (b + d)
-sub-add a b c d = go (below-or-above a b) (below-or-above c d)
-  where
-    go : (a < b) ⊎ (b ≤ a) → (c < d) ⊎ (d ≤ c) → subℕ a b +ℤ subℕ c d ≡ subℕ (a + c) (b + d)
-    go (inl p) (inl q) =
-        rw (sub-below a b p, sub-below c d q, sub-below (a + c) (b + d) (omega arith)) (ap negsuc (omega arith))
-    go (inl p) (inr q) = rw (sub-below a b p, sub-above c d q) (sub-eq (c - d) (suc (b - suc a)) (a + c) (b + d) (omega arith))
-    go (inr p) (inl q) = rw (sub-above a b p, sub-below c d q) (sub-eq (a - b) (suc (d - suc c)) (a + c) (b + d) (omega arith))
-    go (inr p) (inr q) =
-        rw (sub-above a b p, sub-above c d q, sub-above (a + c) (b + d) (omega arith)) (ap pos (omega arith))
-
 pub natAbs-sub : (a b : ℕ) → natAbs (subℕ a b) ≤ max a b
 natAbs-sub a b = go (below-or-above a b)
   where
     go : (a < b) ⊎ (b ≤ a) → natAbs (subℕ a b) ≤ max a b
     go (inl p) = rw (sub-below a b p) (omega arith)
     go (inr p) = rw (sub-above a b p) (omega arith)
-
--- a difference is above zero where the first number is the larger, and below zero where the second is
-pub positive-iff : (a b : ℕ) → isPositive (subℕ a b) ≡ ltb b a
-positive-iff a b = go (below-or-above a b) (below-or-above b a)
-  where
-    go : (a < b) ⊎ (b ≤ a) → (b < a) ⊎ (a ≤ b) → isPositive (subℕ a b) ≡ ltb b a
-    go (inl p) q = rw (sub-below a b p) (sym (le-ltb b a (omega arith)))
-    go (inr p) (inl q) = rw (sub-above a b p, lt-ltb b a q) (lt-ltb 0 (a - b) (omega arith))
-    go (inr p) (inr q) = rw (sub-above a b p, le-ltb b a q) (le-ltb 0 (a - b) (omega arith))
-
-pub negative-iff : (a b : ℕ) → isNegative (subℕ a b) ≡ ltb a b
-negative-iff a b = go (below-or-above a b)
-  where
-    go : (a < b) ⊎ (b ≤ a) → isNegative (subℕ a b) ≡ ltb a b
-    go (inl p) = rw (sub-below a b p) (sym (lt-ltb a b p))
-    go (inr p) = rw (sub-above a b p, le-ltb a b p) (le-ltb (a - b) 0 zero-le)
 
 -- the order
 trans′ : (a b c : ℤ) → T (leZ a b) → T (leZ b c) → T (leZ a c)
@@ -89,17 +62,11 @@ trans′ (negsuc a) b (pos c) h k = tt
 trans′ (negsuc a) (pos b) (negsuc c) h k = absurd k
 trans′ (negsuc a) (negsuc b) (negsuc c) h k = le→leb c a (le-trans (leb→le c b k) (leb→le b a h))
 
-pub ≤ℤ-trans : {a b c : ℤ} → a ≤ℤ b → b ≤ℤ c → a ≤ℤ c
-≤ℤ-trans {a} {b} {c} h k = record { le = trans′ a b c (h .le) (k .le) }
-
 antisymm′ : (a b : ℤ) → T (leZ a b) → T (leZ b a) → a ≡ b
 antisymm′ (pos a) (pos b) h k = ap pos (le-antisymm (leb→le a b h) (leb→le b a k))
 antisymm′ (pos a) (negsuc b) h k = absurd h
 antisymm′ (negsuc a) (pos b) h k = absurd k
 antisymm′ (negsuc a) (negsuc b) h k = ap negsuc (le-antisymm (leb→le a b k) (leb→le b a h))
-
-pub ≤ℤ-antisymm : {a b : ℤ} → a ≤ℤ b → b ≤ℤ a → a ≡ b
-≤ℤ-antisymm {a} {b} h k = antisymm′ a b (h .le) (k .le)
 
 weaken′ : (a b : ℤ) → T (ltZ a b) → T (leZ a b)
 weaken′ (pos a) (pos b) h = le→leb a b (omega (arith, ltb→lt a b h))
@@ -132,21 +99,8 @@ lower-ind P a b f g = go (ltZ b a) f g
     go false f g = f tt
 
 module _ (a b : ℤ) where
-  pub lower-le-left : lower a b ≤ℤ a
-  lower-le-left = lower-ind (λ z. z ≤ℤ a) a b (λ t. ≤ℤ-refl a) (λ t. <ℤ-≤ℤ (ltZ-yes t))
-
-  pub lower-le-right : lower a b ≤ℤ b
-  lower-le-right = lower-ind (λ z. z ≤ℤ b) a b (λ t. ltZ-no t) (λ t. ≤ℤ-refl b)
-
-  pub le-lower : (c : ℤ) → c ≤ℤ a → c ≤ℤ b → c ≤ℤ lower a b
-  le-lower c h k = lower-ind (λ z. c ≤ℤ z) a b (λ t. h) (λ t. k)
-
   pub natAbs-lower : natAbs (lower a b) ≤ max (natAbs a) (natAbs b)
   natAbs-lower = lower-ind (λ z. natAbs z ≤ max (natAbs a) (natAbs b)) a b (λ t. le-max-left _ _) (λ t. le-max-right _ _)
-
-pub lower-mono : {a a′ b b′ : ℤ} → a ≤ℤ a′ → b ≤ℤ b′ → lower a b ≤ℤ lower a′ b′
-lower-mono {a} {a′} {b} {b′} h k =
-    le-lower a′ b′ (lower a b) (≤ℤ-trans (lower-le-left a b) h) (≤ℤ-trans (lower-le-right a b) k)
 
 -- signed sums
 pub natAbs-add : (a b : ℤ) → natAbs (a +ℤ b) ≤ natAbs a + natAbs b
@@ -165,20 +119,9 @@ pub sumℤ-step : (n : ℕ) (f : ℕ → ℤ) → sumℤ (n + 1) f ≡ sumℤ n 
 unfolding sumℤ
 sumℤ-step n f = rw add-one
 
-pub sumℤ-cong : (n : ℕ) (f g : ℕ → ℤ) → ((k : ℕ) → k < n → f k ≡ g k) → sumℤ n f ≡ sumℤ n g
-unfolding sumℤ
-sumℤ-cong zero f g h = refl
-sumℤ-cong (suc n) f g h = ap₂ _+ℤ_ (sumℤ-cong n f g (λ k l. h k (omega arith))) (h n (omega arith))
-
 pub sumℤ-bound : (n : ℕ) (f : ℕ → ℤ) (b : ℕ) → ((k : ℕ) → k < n → natAbs (f k) ≤ b) → natAbs (sumℤ n f) ≤ n * b
 unfolding sumℤ
 sumℤ-bound zero f b h = zero-le
 sumℤ-bound (suc n) f b h =
     let rest : natAbs (sumℤ n f) ≤ n * b = sumℤ-bound n f b (λ k l. h k (omega arith)) in
     omega (arith, natAbs-add (sumℤ n f) (f n), h n (omega arith), suc-mul n b)
-
--- a sum of differences is the difference of the sums
-pub sumℤ-sub : (n : ℕ) (f g : ℕ → ℕ) → sumℤ n (λ k. subℕ (f k) (g k)) ≡ subℕ (sum n f) (sum n g)
-unfolding sumℤ sum
-sumℤ-sub zero f g = refl
-sumℤ-sub (suc n) f g = ap (λ z. z +ℤ subℕ (f n) (g n)) (sumℤ-sub n f g) ∙ sub-add (sum n f) (sum n g) (f n) (g n)

@@ -30,11 +30,6 @@ module _ {A : Type 0} where
   total-cong f g h [] = refl
   total-cong f g h (x ∷ xs) = ap₂ _+_ (h x) (total-cong f g h xs)
 
-  pub total-le : (f g : A → ℕ) → ((x : A) → f x ≤ g x) → (xs : List A) → total f xs ≤ total g xs
-  unfolding total
-  total-le f g h [] = zero-le
-  total-le f g h (x ∷ xs) = add-le-add (h x) (total-le f g h xs)
-
   pub total-bound : (f : A → ℕ) (k : ℕ) → ((x : A) → f x ≤ k) → (xs : List A) → total f xs ≤ length xs * k
   unfolding total
   total-bound f k h [] = zero-le
@@ -52,19 +47,6 @@ module _ {A : Type 0} where
   total-bound-where ok f k h xs e =
       le-trans (total-le-where ok f (λ x. k) h xs e) (total-bound (λ x. k) k (λ x. le-refl k) xs)
 
-  pub total-zero : (f : A → ℕ) → ((x : A) → f x ≡ 0) → (xs : List A) → total f xs ≡ 0
-  unfolding total
-  total-zero f h [] = refl
-  total-zero f h (x ∷ xs) = omega (arith, h x, total-zero f h xs)
-
-  pub count-append : (f : A → Bool) (xs ys : List A) → count f (xs ++ ys) ≡ count f xs + count f ys
-  unfolding count
-  count-append f xs ys = total-append _ xs ys
-
-  pub count-cong : (f g : A → Bool) → ((x : A) → f x ≡ g x) → (xs : List A) → count f xs ≡ count g xs
-  unfolding count
-  count-cong f g h xs = total-cong _ _ (λ x. ap (λ b. cond b 1 0) (h x)) xs
-
   pub count-le-length : (f : A → Bool) (xs : List A) → count f xs ≤ length xs
   unfolding count
   count-le-length f xs = rw mul-one at (total-bound _ 1 (λ x. cond-below (f x) 1) xs)
@@ -79,11 +61,6 @@ total-map f g (x ∷ xs) = ap (λ n. f (g x) + n) (total-map f g xs)
 pub sum-step : (n : ℕ) (f : ℕ → ℕ) → sum (n + 1) f ≡ sum n f + f n
 unfolding sum
 sum-step n f = rw add-one
-
-pub sum-cong : (n : ℕ) (f g : ℕ → ℕ) → ((k : ℕ) → k < n → f k ≡ g k) → sum n f ≡ sum n g
-unfolding sum
-sum-cong zero f g h = refl
-sum-cong (suc n) f g h = ap₂ _+_ (sum-cong n f g (λ k l. h k (omega arith))) (h n (omega arith))
 
 pub sum-le : (n : ℕ) (f g : ℕ → ℕ) → ((k : ℕ) → k < n → f k ≤ g k) → sum n f ≤ sum n g
 unfolding sum

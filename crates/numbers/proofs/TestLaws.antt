@@ -43,10 +43,6 @@ pub or-false-split : (a b : Bool) → a || b ≡ false → (a ≡ false) × (b �
 or-false-split true b e = absurd (true≢false e)
 or-false-split false b e = (refl, e)
 
-pub or-false-join : (a b : Bool) → a ≡ false → b ≡ false → a || b ≡ false
-or-false-join true b p q = p
-or-false-join false b p q = q
-
 -- each test of a list holds, as facts
 abbrev pub Holds : List Bool → Type 0
 Holds [] = Unit {0}
@@ -90,16 +86,6 @@ module _ {A : Type 0} where
       or-assoc-step true b c e = refl
       or-assoc-step false b c e = e
 
-  pub all-cong : (f g : A → Bool) → ((x : A) → f x ≡ g x) → (xs : List A) → all f xs ≡ all g xs
-  unfolding all
-  all-cong f g h [] = refl
-  all-cong f g h (x ∷ xs) = ap₂ _&&_ (h x) (all-cong f g h xs)
-
-  pub any-cong : (f g : A → Bool) → ((x : A) → f x ≡ g x) → (xs : List A) → any f xs ≡ any g xs
-  unfolding any
-  any-cong f g h [] = refl
-  any-cong f g h (x ∷ xs) = ap₂ _||_ (h x) (any-cong f g h xs)
-
   -- what holds of each member holds at each place
   pub all-getD : (f : A → Bool) (xs : List A) → all f xs ≡ true → (i : ℕ) (d : A) → i < length xs → f (getD xs i d) ≡ true
   unfolding all
@@ -114,15 +100,6 @@ module _ {A : Type 0} where
   getD-holds f (x ∷ xs) e zero d h = and-split (f x) (all f xs) e .0
   getD-holds f (x ∷ xs) e (suc i) d h = getD-holds f xs (and-split (f x) (all f xs) e .1) i d h
 
-  pub all-take : (f : A → Bool) (xs : List A) (i : ℕ) → all f xs ≡ true → all f (take i xs) ≡ true
-  all-take f xs i e =
-      and-split (all f (take i xs)) (all f (drop i xs)) (sym (all-append f (take i xs) (drop i xs)) ∙ ap (all f) (take-append-drop i xs) ∙ e) .0
-
-  pub all-from : (f : A → Bool) → ((x : A) → f x ≡ true) → (xs : List A) → all f xs ≡ true
-  unfolding all
-  all-from f h [] = refl
-  all-from f h (x ∷ xs) = and-join (f x) (all f xs) (h x) (all-from f h xs)
-
 pub allBelow-at : (n : ℕ) (f : ℕ → Bool) → allBelow n f ≡ true → (k : ℕ) → k < n → f k ≡ true
 unfolding allBelow
 allBelow-at zero f e k h = absurd (not-suc-le-zero h)
@@ -135,16 +112,6 @@ unfolding allBelow
 allBelow-from zero f h = refl
 allBelow-from (suc n) f h =
     and-join (f n) (allBelow n f) (h n (omega arith)) (allBelow-from n f (λ k l. h k (omega arith)))
-
--- one number more, in the code's form
-pub allBelow-step : (n : ℕ) (f : ℕ → Bool) → allBelow (n + 1) f ≡ f n && allBelow n f
-unfolding allBelow
-allBelow-step n f = rw add-one
-
-pub allBelow-cong : (n : ℕ) (f g : ℕ → Bool) → ((k : ℕ) → k < n → f k ≡ g k) → allBelow n f ≡ allBelow n g
-unfolding allBelow
-allBelow-cong zero f g h = refl
-allBelow-cong (suc n) f g h = ap₂ _&&_ (h n (omega arith)) (allBelow-cong n f g (λ k l. h k (omega arith)))
 
 pub all-set : {A : Type 0} (f : A → Bool) (xs : List A) (i : ℕ) (x : A) → all f xs ≡ true → f x ≡ true → all f (set xs i x) ≡ true
 unfolding all

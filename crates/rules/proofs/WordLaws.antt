@@ -24,9 +24,6 @@ word-kind k v h = omega arith
 pub word-value : (k v : ℕ) → v < 268435456 → valueOf (word k v) ≡ v
 word-value k v h = omega arith
 
-pub word-back : (w : ℕ) → word (kindOf w) (valueOf w) ≡ w
-word-back w = omega arith
-
 -- the ranges of what checks 3 to 7 let pass
 pub record Faultless (k : Key) (a : ℕ) : Type 0 where
   pub party-above : 1 ≤ k .party

@@ -70,9 +70,6 @@ controlCause ws d = causeOf ws (calls.control d)
 abbrev pub controlWords : List ℕ → ℕ → List ℕ
 controlWords ws d = wordsAfter ws (calls.control d)
 
-abbrev pub fileCause : List ℕ → List ℕ → ℕ
-fileCause ws bs = causeOf ws (calls.file bs)
-
 abbrev pub fileWords : List ℕ → List ℕ → List ℕ
 fileWords ws bs = wordsAfter ws (calls.file bs)
 
