@@ -9,19 +9,21 @@ ghost use Rattle.rules.specs.Calls as calls;
 use rules::Counted;
 use rules::EntryRead;
 use rules::Posted;
-use words::COEFFICIENT_WORD;
-use words::COUNT_WORD;
-use words::KIND;
-use words::MOST_COEFFICIENT;
-use words::MOST_TOLERANCE;
-use words::TOLERANCE_WORD;
-use words::WITHDRAWN;
-use words::refusals::BAD_FIGURE;
-use words::refusals::BAD_LENGTH;
-use words::refusals::DAY_CLOSED;
-use words::refusals::NO_ENTRY;
-use words::refusals::NO_ROOM;
-use words::refusals::NOT_A_BOOK;
+use rules::bounds::DEFAULT_COEFFICIENT;
+use rules::bounds::DEFAULT_TOLERANCE;
+use rules::bounds::MOST_COEFFICIENT;
+use rules::bounds::MOST_TOLERANCE;
+use rules::causes::BAD_FIGURE;
+use rules::causes::BAD_LENGTH;
+use rules::causes::DAY_CLOSED;
+use rules::causes::NO_ENTRY;
+use rules::causes::NO_ROOM;
+use rules::causes::NOT_A_BOOK;
+use rules::layout::COEFFICIENT_WORD;
+use rules::layout::COUNT_WORD;
+use rules::layout::KIND;
+use rules::layout::TOLERANCE_WORD;
+use rules::layout::WITHDRAWN;
 
 // Whether the words are a book.
 pub fn is_book(book: &[u32]) -> bool
@@ -68,7 +70,7 @@ pub fn open_default(book: &mut [u32]) -> u32
     ensures answer { λ r. ⌜ r ≡ openCause (length (now (book .entry))) defaultCoefficient defaultTolerance ⌝ }
     ensures words { λ r. ⌜ now (book .exit) ≡ openWords (now (book .entry)) defaultCoefficient defaultTolerance ⌝ }
 {
-    open(book, 110, 600000)
+    open(book, DEFAULT_COEFFICIENT, DEFAULT_TOLERANCE)
 }
 
 fn post_cause(

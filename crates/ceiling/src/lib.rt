@@ -6,9 +6,8 @@ ghost use Rattle.numbers.specs.Tests.{every};
 ghost use Rattle.rules.specs.Entry.{mostVolume};
 ghost use Rattle.rules.specs.Ceiling.{isRecordable, ceilingAnswer};
 use rules::CeilingAnswer;
-
-// The highest figure, in kWh.
-const MOST_VOLUME: u32 = 1000000000;
+use rules::bounds::MOST_OFFER;
+use rules::causes::BAD_FIGURE;
 
 // Twice the offer that is recordable without position or capacity.
 const TWICE_FREE: u64 = 50000;
@@ -19,7 +18,7 @@ pub fn ceiling(offer: u32, bilateral: u32, futures: u32, capacity: u32) -> Ceili
 {
     if !in_range(offer, bilateral, futures, capacity) {
         return CeilingAnswer {
-            answer: 12,
+            answer: BAD_FIGURE,
             recordable: 0,
         };
     }
@@ -32,10 +31,10 @@ pub fn ceiling(offer: u32, bilateral: u32, futures: u32, capacity: u32) -> Ceili
 fn in_range(offer: u32, bilateral: u32, futures: u32, capacity: u32) -> bool
     ensures { λ r. ⌜ r ≡ every (leb offer mostVolume ∷ leb bilateral mostVolume ∷ leb futures mostVolume ∷ leb capacity mostVolume ∷ []) ⌝ }
 {
-    (offer <= MOST_VOLUME)
-        & (bilateral <= MOST_VOLUME)
-        & (futures <= MOST_VOLUME)
-        & (capacity <= MOST_VOLUME)
+    (offer <= MOST_OFFER)
+        & (bilateral <= MOST_OFFER)
+        & (futures <= MOST_OFFER)
+        & (capacity <= MOST_OFFER)
 }
 
 // 2 × O is at most (larger of 50,000 and 3 × (N + V)) + 2 × G; 64 bits hold both sides for any figures.

@@ -56,7 +56,7 @@ pub fn trading_of(book: &[u32], case: Case) -> u64
     ensures { λ r. ⌜ r ≡ trading case (entries (now (book .entry))) ⌝ }
 {
     let days = trading_days(case.trading.nonbusiness);
-    let debt = debts::debt_of(book, case.asked.party, case.asked.day, days);
+    let debt = trading_debts::debt_of(book, case.asked.party, case.asked.day, days);
     let weight = 20 + case.trading.defaults as u64;
     let quarters = quarters_of(case.trading.holiday, days);
     numbers::round_up(debt * weight * quarters, 80)

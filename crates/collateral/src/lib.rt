@@ -3,10 +3,10 @@ ghost use mathlib.Core.Path.{_≡_};
 ghost use Rattle.rules.specs.Collateral.{collateralCause, collateralAnswer};
 use rules::Case;
 use rules::Collateral;
-use words::refusals::BAD_DAY;
-use words::refusals::BAD_FIGURE;
-use words::refusals::BAD_PARTY;
-use words::refusals::NOT_A_BOOK;
+use rules::causes::BAD_DAY;
+use rules::causes::BAD_FIGURE;
+use rules::causes::BAD_PARTY;
+use rules::causes::NOT_A_BOOK;
 
 mod items;
 mod months;

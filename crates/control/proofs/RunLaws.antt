@@ -27,10 +27,10 @@ use Rattle.rules.proofs.WordLaws.{Fits, room-words, book-facts, book-laid}
 use Rattle.rules.proofs.BookLaws.{Stays, laid-stays, posted-book, mark-legal, length-snoc}
 use Rattle.rules.proofs.CancelLaws.{cancel-length, cancel-legals}
 use Rattle.rules.proofs.CallLaws.{refused-words, refused-figures, done-figures, done-words, control-passes, control-cause}
-use Rattle.flags.specs.Tables.{flagged, checked}
+use Rattle.detection.specs.Tables.{flagged, checked}
 use Rattle.control.specs.Passes.{everyone, cancelledWords, passOf}
 use Rattle.control.specs.declared.passes.Passed.{Passed}
-use Rattle.flags.proofs.FlagLaws.{no-party}
+use Rattle.detection.proofs.FlagLaws.{no-party}
 
 -- everyone is asked in the first pass
 pub first-checked : (ws : List ℕ) (d : ℕ) → checked ws d everyone ≡ firstPass (coefficientOf ws) (toleranceOf ws) d (entries ws)

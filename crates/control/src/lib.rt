@@ -2,11 +2,11 @@
 ghost use mathlib.Core.Path.{_≡_};
 ghost use Rattle.rules.specs.Calls.{causeOf, wordsAfter, controlAnswer};
 ghost use Rattle.rules.specs.Calls as calls;
-use flags::pairs;
-use flags::sums;
-use flags::sums::NUMBERS;
+use detection::pairs;
+use detection::sums;
+use detection::sums::NUMBERS;
 use rules::Controlled;
-use words::refusals;
+use rules::causes;
 
 mod passes;
 
@@ -14,17 +14,17 @@ fn control_cause(book: &[u32], day: u32) -> u32
     ensures { λ r. ⌜ r ≡ causeOf (now (book .entry)) (calls.control day) ⌝ }
 {
     if !book::is_book(book) {
-        return refusals::NOT_A_BOOK;
+        return causes::NOT_A_BOOK;
     }
     if !words::day_ok(day) {
-        return refusals::BAD_DAY;
+        return causes::BAD_DAY;
     }
     if words::is_closed(book, day) {
-        return refusals::DAY_CLOSED;
+        return causes::DAY_CLOSED;
     }
     let count = words::count_of(book) as usize;
     if words::room(book.len()) <= count {
-        return refusals::NO_ROOM;
+        return causes::NO_ROOM;
     }
     0
 }

@@ -9,11 +9,18 @@ ghost use Rattle.rules.specs.Words.{isBook, entries, countOf, roomIn};
 ghost use Rattle.rules.specs.Stores.{posted};
 ghost use Rattle.rules.specs.Control.{isToCancel, detectedParties};
 ghost use Rattle.cells.specs.Cells.{recordRead};
-ghost use Rattle.flags.specs.Tables.{flagged};
+ghost use Rattle.detection.specs.Tables.{flagged};
 ghost use Rattle.control.specs.Passes.{cancelledWords, passOf};
-use flags::sums::Flags;
-use flags::sums::NUMBERS;
+use detection::sums::Flags;
+use detection::sums::NUMBERS;
 use rules::EntryRead;
+use rules::layout::BILATERAL;
+use rules::layout::CANCELLED;
+use rules::layout::COUNT_WORD;
+use rules::layout::ENTRY_WORDS;
+use rules::layout::HEAD_WORDS;
+use rules::layout::MARK;
+use rules::layout::STANDING;
 
 // The parties detected in a pass and the entries cancelled.
 pub struct Passed {
@@ -26,9 +33,9 @@ fn is_to_cancel(e: EntryRead, day: u32, flags: &Flags) -> bool
     requires { ⌜ e .party ≤ lastParty ⌝ }
     ensures { λ r. ⌜ r ≡ isToCancel (flagged (now (flags .entry))) day (recordRead e) ⌝ }
 {
-    (e.status == words::STANDING)
+    (e.status == STANDING)
         & (e.day == day)
-        & ((e.entry_type == words::BILATERAL) & (0 < e.counterparty))
+        & ((e.entry_type == BILATERAL) & (0 < e.counterparty))
         & flags[e.party as usize]
 }
 
@@ -42,9 +49,9 @@ fn cancel(book: &mut [u32], day: u32, flags: &Flags) -> u32
     let mut n = 0;
     let mut i = 0;
     while i < count {
-        let e = words::read_at(book, 3 + 5 * i);
+        let e = words::read_at(book, HEAD_WORDS + ENTRY_WORDS * i);
         if is_to_cancel(e, day, flags) {
-            words::set_status(book, i, words::CANCELLED);
+            words::set_status(book, i, CANCELLED);
             n += 1;
         }
         i += 1;
@@ -84,6 +91,6 @@ pub fn append_mark(book: &mut [u32], day: u32)
     ensures { λ _. ⌜ now (book .exit) ≡ posted (now (book .entry)) (keyOf 0 day markType 0) 0 ⌝ }
 {
     let count = words::count_of(book);
-    words::store_entry(book, words::place_of(count), 0, day, words::MARK, 0, 0);
-    book[0] = words::COUNT_WORD + (count + 1);
+    words::store_entry(book, words::place_of(count), 0, day, MARK, 0, 0);
+    book[0] = COUNT_WORD + (count + 1);
 }

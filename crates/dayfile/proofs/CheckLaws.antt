@@ -15,10 +15,10 @@ use Rattle.numbers.proofs.CauseLaws.{else-stop, else-none}
 use Rattle.rules.specs.Entry.{Record, key, standing, recordOf}
 use Rattle.rules.specs.Book.{isMarkOf}
 use Rattle.rules.specs.DayFile.{Item, line, emptyBlock, linesOf, headItem}
-use Rattle.fileform.specs.declared.Cursor.{Cursor}
-use Rattle.fileform.specs.Walk.{isMore, headAt, itemsAt, pastStep, leftItems}
+use Rattle.file_walk.specs.declared.Cursor.{Cursor}
+use Rattle.file_walk.specs.Walk.{isMore, headAt, itemsAt, pastStep, leftItems}
 use Rattle.dayfile.specs.Check.{causeBy, firstCause, linesAt, scanned}
-use Rattle.fileform.proofs.WalkLaws.{items-step, some}
+use Rattle.file_walk.proofs.WalkLaws.{items-step, some}
 use Rattle.rules.specs.declared.FileRead.{FileRead}
 
 -- one entry's mark in the table

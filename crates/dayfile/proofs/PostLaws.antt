@@ -19,11 +19,11 @@ use Rattle.rules.specs.Stores.{storedAt}
 use Rattle.rules.specs.DayFile.{Item, line, emptyBlock, headItem, itemCause, linesOf}
 use Rattle.rules.proofs.WordLaws.{book-facts, book-laid, laid-used, encode-all-append, room-words}
 use Rattle.rules.proofs.BookLaws.{stored-words, new-legal}
-use Rattle.fileform.specs.declared.Cursor.{Cursor}
-use Rattle.fileform.specs.declared.Line.{Line}
-use Rattle.fileform.specs.Walk.{isMore, headAt, lineAt, lineItem, itemsAt, pastStep, leftItems}
+use Rattle.file_walk.specs.declared.Cursor.{Cursor}
+use Rattle.file_walk.specs.declared.Line.{Line}
+use Rattle.file_walk.specs.Walk.{isMore, headAt, lineAt, lineItem, itemsAt, pastStep, leftItems}
 use Rattle.dayfile.specs.Check.{linesAt, storedFrom}
-use Rattle.fileform.proofs.WalkLaws.{items-step, line-held}
+use Rattle.file_walk.proofs.WalkLaws.{items-step, line-held}
 use Rattle.dayfile.proofs.CheckLaws.{lines-append, lines-held}
 
 -- one head or line

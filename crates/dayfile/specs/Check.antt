@@ -10,7 +10,7 @@ use Rattle.rules.specs.Entry.{fault, isBilateral}
 use Rattle.rules.specs.Stores.{storedAt}
 use Rattle.rules.specs.DayFile.{Item, line, emptyBlock, itemCause, linesOf}
 use Rattle.rules.specs.declared.FileRead.{FileRead}
-use Rattle.fileform.specs.declared.Cursor.{Cursor}
+use Rattle.file_walk.specs.declared.Cursor.{Cursor}
 
 -- one place a day
 abbrev pub tableDays : ℕ

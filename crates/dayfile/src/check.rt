@@ -9,16 +9,19 @@ ghost use Rattle.rules.specs.Words.{decode, entryOk, isBook, entries};
 ghost use Rattle.rules.specs.Book.{isMarkOf, isClosed};
 ghost use Rattle.rules.specs.DayFile.{line, emptyBlock, itemCause, items, mostBytes, isFile};
 ghost use Rattle.rules.specs.Calls.{fileAnswer};
-ghost use Rattle.fileform.specs.Walk.{isMore, itemsAt};
+ghost use Rattle.file_walk.specs.Walk.{isMore, itemsAt};
 ghost use Rattle.dayfile.specs.Check.{tableDays, causeBy, firstCause, linesAt, scanned};
-use fileform::Cursor;
-use fileform::walk;
+use file_walk::Cursor;
+use file_walk::walk;
 use rules::FileRead;
-use words::MARK;
-use words::refusals::BAD_DAY;
-use words::refusals::BAD_PARTY;
-use words::refusals::DAY_CLOSED;
-use words::refusals::NO_ROOM;
+use rules::bounds::DAYS;
+use rules::causes::BAD_DAY;
+use rules::causes::BAD_PARTY;
+use rules::causes::DAY_CLOSED;
+use rules::causes::NO_ROOM;
+use rules::layout::ENTRY_WORDS;
+use rules::layout::HEAD_WORDS;
+use rules::layout::MARK;
 
 // Marks the day of a mark as closed.
 fn close_at(book: &[u32], at: usize, closed: &mut [bool])
@@ -43,7 +46,7 @@ pub fn close_days(book: &[u32], closed: &mut [bool])
     let count = words::count_of(book) as usize;
     let mut i = 0;
     while i < count {
-        close_at(book, 3 + 5 * i, closed);
+        close_at(book, HEAD_WORDS + ENTRY_WORDS * i, closed);
         i += 1;
     }
 }
@@ -166,6 +169,6 @@ pub fn answer_of(book: &[u32], file: &[u8]) -> FileRead
     requires { ⌜ isFile (now file) ≡ true ⌝ }
     ensures { λ r. ⌜ r ≡ fileAnswer (now (book .entry)) (now (file .entry)) ⌝ }
 {
-    let mut closed = [false; 36525];
+    let mut closed = [false; DAYS];
     answer_with(book, file, &mut closed)
 }

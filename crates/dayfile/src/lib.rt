@@ -4,26 +4,22 @@ ghost use Rattle.rules.specs.DayFile.{isFile};
 ghost use Rattle.rules.specs.Calls.{wordsAfter, fileAnswer};
 ghost use Rattle.rules.specs.Calls as calls;
 ghost use Rattle.dayfile.specs.Check.{nonePosted};
-use fileform::walk;
+use file_walk::walk;
 use rules::FileRead;
-use words::COUNT_WORD;
-use words::refusals::NOT_A_BOOK;
+use rules::bounds::MOST_FILE_BYTES;
+use rules::causes::BAD_FILE;
+use rules::causes::NOT_A_BOOK;
+use rules::layout::COUNT_WORD;
 
 mod check;
 mod post;
-
-// A file is refused by its length, kinds, spare or status bits, or ending.
-pub const BAD_FILE: u32 = 2;
-
-// A file has no more bytes than this.
-pub const MOST_BYTES: usize = 65536;
 
 // Whether the bytes are a day file: their length, kinds, spare and status bits, and where they end.
 pub fn is_file(file: &[u8]) -> bool
     ensures { λ r. ⌜ r ≡ isFile (now (file .entry)) ⌝ }
 {
     let size = file.len();
-    if size > MOST_BYTES {
+    if size > MOST_FILE_BYTES {
         return false;
     }
     if size % 4 != 0 {

@@ -6,10 +6,12 @@ ghost use lib.ListN.{length};
 ghost use Rattle.numbers.specs.Tests.{all};
 ghost use Rattle.rules.specs.Entry.{legal};
 ghost use Rattle.rules.specs.DayFile.{items, linesOf};
-ghost use Rattle.fileform.specs.Walk.{isMore, itemsAt};
+ghost use Rattle.file_walk.specs.Walk.{isMore, itemsAt};
 ghost use Rattle.dayfile.specs.Check.{linesAt, storedFrom};
-use fileform::Cursor;
-use fileform::walk;
+use file_walk::Cursor;
+use file_walk::walk;
+use rules::layout::ENTRY_WORDS;
+use rules::layout::HEAD_WORDS;
 
 // Stores the next line, if there is one, and gives the place after it.
 fn store_at(book: &mut [u32], place: usize, file: &[u8], c: Cursor) -> usize
@@ -43,7 +45,7 @@ pub fn store_lines(book: &mut [u32], file: &[u8], number: usize)
     ensures { λ _. ⌜ now (book .exit) ≡ storedFrom (now (book .entry)) (3 + 5 * number) (items (now (file .entry))) ⌝ }
 {
     let mut c = walk::begin();
-    let mut place = 3 + 5 * number;
+    let mut place = HEAD_WORDS + ENTRY_WORDS * number;
     while walk::more(file, c) {
         place = store_at(book, place, file, c);
         c = walk::advance(file, c);

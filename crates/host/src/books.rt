@@ -7,19 +7,22 @@ ghost use Rattle.rules.specs.Refusals.{notABook};
 ghost use Rattle.rules.specs.Book.{openCause, openWords, defaultCoefficient, defaultTolerance, countAnswer, noRead, readAnswer};
 ghost use Rattle.rules.specs.Calls.{causeOf, wordsAfter, postAnswer};
 ghost use Rattle.rules.specs.Calls as calls;
-ghost use Rattle.coding.specs.Bytes.{onWords, withWords, yesNo};
+ghost use Rattle.word_bytes.specs.Bytes.{onWords, withWords, yesNo};
 use rules::Counted;
 use rules::EntryRead;
 use rules::Posted;
-use words::refusals::NOT_A_BOOK;
+use rules::bounds::DEFAULT_COEFFICIENT;
+use rules::bounds::DEFAULT_TOLERANCE;
+use rules::causes::NOT_A_BOOK;
+use rules::layout::BOOK_WORDS;
 
 // 1 if the bytes are a book, else 0.
 #[no_mangle]
 pub extern "C" fn fanzsoreb_is_book(book: &[u8]) -> u32
     ensures { λ r. ⌜ r ≡ onWords (now (book .entry)) (λ ws. yesNo (isBook ws)) 0 ⌝ }
 {
-    let mut words = [0u32; coding::WORDS];
-    let n = coding::decode(book, &mut words);
+    let mut words = [0u32; BOOK_WORDS];
+    let n = word_bytes::decode(book, &mut words);
     book::is_book(&words[..n]) as u32
 }
 
@@ -32,10 +35,10 @@ pub extern "C" fn fanzsoreb_open(book: &mut [u8], coefficient: u32, tolerance: u
     if book.len() % 4 != 0 {
         return NOT_A_BOOK;
     }
-    let mut words = [0u32; coding::WORDS];
-    let n = coding::decode(book, &mut words);
+    let mut words = [0u32; BOOK_WORDS];
+    let n = word_bytes::decode(book, &mut words);
     let opened = book::open(&mut words[..n], coefficient, tolerance);
-    coding::write_back(opened, &words[..n], book);
+    word_bytes::write_back(opened, &words[..n], book);
     opened
 }
 
@@ -45,7 +48,7 @@ pub extern "C" fn fanzsoreb_open_default(book: &mut [u8]) -> u32
     ensures answer { λ r. ⌜ r ≡ onWords (now (book .entry)) (λ ws. openCause (length ws) defaultCoefficient defaultTolerance) notABook ⌝ }
     ensures bytes { λ r. ⌜ now (book .exit) ≡ withWords (now (book .entry)) (λ ws. openWords ws defaultCoefficient defaultTolerance) ⌝ }
 {
-    fanzsoreb_open(book, 110, 600000)
+    fanzsoreb_open(book, DEFAULT_COEFFICIENT, DEFAULT_TOLERANCE)
 }
 
 // Appends one standing entry and answers its number, counted from 0.
@@ -61,8 +64,8 @@ pub extern "C" fn fanzsoreb_post(
     ensures answer { λ r. ⌜ r ≡ onWords (now (book .entry)) (λ ws. postAnswer ws (keyOf party day «entry_type» counterparty) amount) (record { answer = notABook; number = 0 }) ⌝ }
     ensures bytes { λ r. ⌜ now (book .exit) ≡ withWords (now (book .entry)) (λ ws. wordsAfter ws (calls.post (keyOf party day «entry_type» counterparty) amount)) ⌝ }
 {
-    let mut words = [0u32; coding::WORDS];
-    let n = coding::decode(book, &mut words);
+    let mut words = [0u32; BOOK_WORDS];
+    let n = word_bytes::decode(book, &mut words);
     let posted = book::post(
         &mut words[..n],
         party,
@@ -71,7 +74,7 @@ pub extern "C" fn fanzsoreb_post(
         counterparty,
         amount,
     );
-    coding::write_back(posted.answer, &words[..n], book);
+    word_bytes::write_back(posted.answer, &words[..n], book);
     posted
 }
 
@@ -81,10 +84,10 @@ pub extern "C" fn fanzsoreb_withdraw(book: &mut [u8], number: u32) -> u32
     ensures answer { λ r. ⌜ r ≡ onWords (now (book .entry)) (λ ws. causeOf ws (calls.withdraw number)) notABook ⌝ }
     ensures bytes { λ r. ⌜ now (book .exit) ≡ withWords (now (book .entry)) (λ ws. wordsAfter ws (calls.withdraw number)) ⌝ }
 {
-    let mut words = [0u32; coding::WORDS];
-    let n = coding::decode(book, &mut words);
+    let mut words = [0u32; BOOK_WORDS];
+    let n = word_bytes::decode(book, &mut words);
     let withdrawn = book::withdraw(&mut words[..n], number);
-    coding::write_back(withdrawn, &words[..n], book);
+    word_bytes::write_back(withdrawn, &words[..n], book);
     withdrawn
 }
 
@@ -93,8 +96,8 @@ pub extern "C" fn fanzsoreb_withdraw(book: &mut [u8], number: u32) -> u32
 pub extern "C" fn fanzsoreb_count(book: &[u8]) -> Counted
     ensures { λ r. ⌜ r ≡ onWords (now (book .entry)) countAnswer (record { answer = notABook; count = 0 }) ⌝ }
 {
-    let mut words = [0u32; coding::WORDS];
-    let n = coding::decode(book, &mut words);
+    let mut words = [0u32; BOOK_WORDS];
+    let n = word_bytes::decode(book, &mut words);
     book::count(&words[..n])
 }
 
@@ -103,7 +106,7 @@ pub extern "C" fn fanzsoreb_count(book: &[u8]) -> Counted
 pub extern "C" fn fanzsoreb_entry(book: &[u8], number: u32) -> EntryRead
     ensures { λ r. ⌜ r ≡ onWords (now (book .entry)) (λ ws. readAnswer ws number) (noRead notABook) ⌝ }
 {
-    let mut words = [0u32; coding::WORDS];
-    let n = coding::decode(book, &mut words);
+    let mut words = [0u32; BOOK_WORDS];
+    let n = word_bytes::decode(book, &mut words);
     book::entry(&words[..n], number)
 }

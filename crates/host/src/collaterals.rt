@@ -2,16 +2,17 @@
 ghost use mathlib.Core.Path.{_≡_};
 ghost use Rattle.rules.specs.Refusals.{notABook};
 ghost use Rattle.rules.specs.Collateral.{collateralAnswer, refusedCollateral};
-ghost use Rattle.coding.specs.Bytes.{onWords};
-ghost use Rattle.caseform.specs.Cases.{caseOf};
+ghost use Rattle.word_bytes.specs.Bytes.{onWords};
+ghost use Rattle.collateral_case.specs.Cases.{caseOf};
 use rules::Case;
 use rules::Collateral;
+use rules::layout::BOOK_WORDS;
 
 fn collateral_on(book: &[u8], case: Case) -> Collateral
     ensures { λ r. ⌜ r ≡ onWords (now (book .entry)) (λ ws. collateralAnswer ws case) (refusedCollateral notABook) ⌝ }
 {
-    let mut words = [0u32; coding::WORDS];
-    let n = coding::decode(book, &mut words);
+    let mut words = [0u32; BOOK_WORDS];
+    let n = word_bytes::decode(book, &mut words);
     collateral::collateral(&words[..n], case)
 }
 
@@ -42,7 +43,7 @@ pub extern "C" fn fanzsoreb_collateral(
 ) -> Collateral
     ensures { λ r. ⌜ r ≡ onWords (now (book .entry)) (λ ws. collateralAnswer ws (caseOf party day licence capacity nonbusiness holiday defaults responsible aosmf1 aedm1 aosmf2 aedm2 aosmf3 aedm3 used rk rt yt score best)) (refusedCollateral notABook) ⌝ }
 {
-    let case = caseform::case_of(
+    let case = collateral_case::case_of(
         party,
         day,
         licence,

@@ -1,6 +1,6 @@
 // The month step on bytes (document 01, 'Month step').
 ghost use mathlib.Core.Path.{_≡_};
-ghost use Rattle.coding.specs.Tables.{monthOnBytes};
+ghost use Rattle.word_bytes.specs.Tables.{monthOnBytes};
 use rules::MonthAnswer;
 
 // AOSMF and AEDM of a group's month, out of three tables.
@@ -14,5 +14,5 @@ pub extern "C" fn fanzsoreb_month(
 ) -> MonthAnswer
     ensures { λ r. ⌜ r ≡ monthOnBytes (now (prices .entry)) (now (imbalance .entry)) rows (now (dm .entry)) group ⌝ }
 {
-    monthform::month_on(prices, imbalance, rows, dm, group)
+    month_bytes::month_on(prices, imbalance, rows, dm, group)
 }

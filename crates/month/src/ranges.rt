@@ -5,25 +5,23 @@ ghost use Prim.Native.Nat.{_*_};
 ghost use lib.Dec.{eqb, leb};
 ghost use Rattle.numbers.specs.Tests.{every, all};
 ghost use Rattle.rules.specs.Month.{mostHours, mostPrice, volumeOk, tablesOf, monthCause};
-
-const MOST_HOURS: usize = 745;
-
-const MOST_ROWS: u32 = 64;
-
-const MOST_PRICE: u32 = 1000000;
-
-const MOST_VOLUME: u64 = 10000000;
+use rules::bounds::MOST_HOURS;
+use rules::bounds::MOST_IMBALANCE;
+use rules::bounds::MOST_PRICE;
+use rules::bounds::MOST_ROWS;
+use rules::causes::BAD_FIGURE;
+use rules::causes::BAD_LENGTH;
 
 // The lowest cause that holds: 11, 12, or 0 for none.
 pub fn cause(prices: &[u32], imbalance: &[i32], rows: u32, dm: &[i32], group: u32) -> u32
     ensures { λ r. ⌜ r ≡ monthCause (tablesOf (now (prices .entry)) (now (imbalance .entry)) rows (now (dm .entry)) group) ⌝ }
 {
     if !lengths_agree(prices.len(), imbalance.len(), rows, dm.len()) {
-        return 11;
+        return BAD_LENGTH;
     }
     let places = (1 <= rows) & (rows <= MOST_ROWS) & (group < rows);
     if !(places & prices_ok(prices) & volumes_ok(imbalance) & volumes_ok(dm)) {
-        return 12;
+        return BAD_FIGURE;
     }
     0
 }
@@ -57,7 +55,7 @@ fn volumes_ok(volumes: &[i32]) -> bool
     let mut ok = true;
     let mut i = 0;
     while i < volumes.len() {
-        ok = ok & (numbers::magnitude(volumes[i] as i64) <= MOST_VOLUME);
+        ok = ok & (numbers::magnitude(volumes[i] as i64) <= MOST_IMBALANCE);
         i += 1;
     }
     ok

@@ -14,13 +14,13 @@ fn cause_of(book: &[u32], party: u32, day: u32) -> u32
     ensures { λ r. ⌜ r ≡ partyDayCause (now (book .entry)) party day ⌝ }
 {
     if !book::is_book(book) {
-        return words::refusals::NOT_A_BOOK;
+        return rules::causes::NOT_A_BOOK;
     }
     if !words::party_ok(party) {
-        return words::refusals::BAD_PARTY;
+        return rules::causes::BAD_PARTY;
     }
     if !words::day_ok(day) {
-        return words::refusals::BAD_DAY;
+        return rules::causes::BAD_DAY;
     }
     0
 }

@@ -15,8 +15,8 @@ use Rattle.rules.specs.DayFile.{fileNames}
 use Rattle.rules.specs.Calls.{file, causeOf, wordsAfter, fileAnswer}
 use Rattle.rules.specs.declared.FileRead.{FileRead}
 use Rattle.rules.proofs.CallLaws.{done-stays}
-use Rattle.names.specs.Names.{namesParty}
-use Rattle.names.proofs.NameLaws.{not-named}
+use Rattle.file_names.specs.Names.{namesParty}
+use Rattle.file_names.proofs.NameLaws.{not-named}
 use Rattle.rules.specs.Words.{isBook, entries, coefficientOf, toleranceOf}
 use Rattle.rules.specs.Balance.{Volume, balanceOf, balanceAnswer, partyDayCause}
 use Rattle.rules.specs.declared.TallyAnswer.{TallyAnswer}

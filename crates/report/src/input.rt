@@ -69,7 +69,7 @@ pub fn report_from(fd: i32, buffer: &mut [u8], out: &mut [u8; crate::MOST_TEXT])
 {
     let input = read_whole(fd, buffer);
     if input.failed {
-        let count = crate::refused(dayfile::BAD_FILE, out);
+        let count = crate::refused(rules::causes::BAD_FILE, out);
         return Output {
             failed: true,
             read: 0,

@@ -6,11 +6,13 @@ ghost use Prim.Native.Nat.{ℕ, _+_, _≤_, _<_};
 ghost use lib.ListN.{length, getD};
 ghost use Rattle.rules.specs.Words.{isBook};
 ghost use Rattle.rules.specs.Book.{openWords, defaultCoefficient, defaultTolerance};
-ghost use Rattle.names.specs.Names.{namesParty};
+ghost use Rattle.file_names.specs.Names.{namesParty};
 ghost use Rattle.text.specs.Text.{Wrote, Whole};
 ghost use Rattle.report.specs.Asked.{Asked};
 ghost use Rattle.report.specs.Report.{header, refusal, lineText, lineOf, eachFrom, partyLines, allLines, reportInto, reportOn, mostText};
 use position::parts;
+use rules::bounds::DAYS;
+use rules::layout::BOOK_WORDS;
 
 pub mod input;
 
@@ -64,7 +66,7 @@ fn put_days(book: &[u32], party: u32, days: &[bool], out: &mut [u8], at: usize) 
 {
     let mut next = at;
     let mut day = 0;
-    while day < 36525 {
+    while day < DAYS {
         next = put_named(book, party, day as u32, days[day], out, next);
         day += 1;
     }
@@ -87,7 +89,7 @@ fn put_party_with(
     requires { ⌜ (1 ≤ party) × (party ≤ 999) ⌝ }
     ensures { λ r. ⌜ Wrote (now (out .entry)) at (partyLines (now (file .entry)) (now (book .entry)) party) r (now (out .exit)) ⌝ }
 {
-    names::mark_days(file, party, days);
+    file_names::mark_days(file, party, days);
     put_days(book, party, days, out, at)
 }
 
@@ -102,7 +104,7 @@ fn put_party(book: &[u32], file: &[u8], party: u32, named: bool, out: &mut [u8],
     if !named {
         return at;
     }
-    let mut days = [false; 36525];
+    let mut days = [false; DAYS];
     put_party_with(book, file, party, &mut days, out, at)
 }
 
@@ -129,7 +131,7 @@ fn put_table_with(book: &[u32], file: &[u8], parties: &mut [bool], out: &mut [u8
     requires { ⌜ isBook (now book) ≡ true ⌝ }
     ensures { λ r. ⌜ Wrote (now (out .entry)) 0 (header ++ allLines (now (file .entry)) (now (book .entry))) r (now (out .exit)) ⌝ }
 {
-    names::mark_parties(file, parties);
+    file_names::mark_parties(file, parties);
     let next = text::put_bytes(out, 0, b"party day ahead delivery\n");
     put_parties(book, file, parties, out, next)
 }
@@ -167,6 +169,6 @@ pub fn report(file: &[u8], out: &mut [u8]) -> usize
     ensures { λ r. ⌜ Wrote (now (out .entry)) 0 (reportOn (now (file .entry))) r (now (out .exit)) ⌝ }
     ensures { λ r. ⌜ (mostText ≤ length (now (out .entry)) → Whole (now (out .entry)) (reportOn (now (file .entry))) r (now (out .exit))) ⌝ }
 {
-    let mut book = [0u32; 15363];
+    let mut book = [0u32; BOOK_WORDS];
     report_into(&mut book, file, out)
 }

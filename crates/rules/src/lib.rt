@@ -4,6 +4,10 @@ ghost use mathlib.Core.Path.{_≡_};
 ghost use Rattle.rules.specs.Collateral.{plainCase};
 ghost use Rattle.rules.specs.CaseFigures.{withParty, withDay, withLicence, withHoliday, withResponsible, withCapacity, withNonbusiness, withDefaults, withMonths, withUsed, withRk, withRt, withYt, withScore, withBest};
 
+pub mod bounds;
+pub mod causes;
+pub mod layout;
+
 // A post's answer: 0 and the entry's number, counted from 0, or the cause.
 #[repr(C)]
 pub struct Posted {

@@ -9,6 +9,10 @@ ghost use Rattle.rules.specs.Balance.{noTally, sumPlace};
 use rules::SUMS;
 use rules::Tally;
 use rules::TallyAnswer;
+use rules::layout::DAY_WORD;
+use rules::layout::ENTRY_WORDS;
+use rules::layout::HEAD_WORDS;
+use rules::layout::PARTY_WORD;
 
 // The kind 3 word of a standing type 6 entry with counterparty 0: an export. Each counterparty adds 256.
 const EXPORT: u32 = 0x30000006;
@@ -37,13 +41,13 @@ fn tallied(mut t: Tally, book: &[u32], day: u32) -> TallyAnswer
     ensures { λ r. ⌜ r ≡ scanned (t .party) day (entries (now (book .entry))) ⌝ }
 {
     let count = words::count_of(book) as usize;
-    let own = words::PARTY_WORD + t.party;
-    let dated = words::DAY_WORD + day;
+    let own = PARTY_WORD + t.party;
+    let dated = DAY_WORD + day;
     let sold = EXPORT + 256 * t.party;
     let mut bought: u64 = 0;
     let mut i: usize = 0;
     while i < count {
-        let at = 3 + 5 * i;
+        let at = HEAD_WORDS + ENTRY_WORDS * i;
         let today = book[at + 1] == dated;
         let figures = book[at + 2];
         if today

@@ -10,62 +10,36 @@ ghost use Rattle.words.specs.Parts.{figuresOk, kept};
 ghost use Rattle.rules.specs.Words.{decode, entryOk, entriesOk, roomIn, countOf, coefficientOf, toleranceOf, isBook, entries};
 ghost use Rattle.rules.specs.Book.{isMarkOf, isClosed, shutTo, placeOf, readOf};
 ghost use Rattle.rules.specs.Stores.{storedAt, restatused};
-use refusals::BAD_AMOUNT;
-use refusals::BAD_COUNTERPARTY;
-use refusals::BAD_DAY;
-use refusals::BAD_PARTY;
-use refusals::BAD_TYPE;
-use refusals::DAY_CLOSED;
-use refusals::NO_ENTRY;
 use rules::EntryRead;
-
-pub mod refusals;
-
-// A word's top four bits of 32 are its kind (01, 'The words').
-pub const KIND: u32 = 268435456;
-
-// The word of each kind with value 0: an entry's five, and the three before the entries.
-pub const PARTY_WORD: u32 = 0x10000000;
-
-pub const DAY_WORD: u32 = 0x20000000;
-
-pub const FIGURES_WORD: u32 = 0x30000000;
-
-pub const LOW_WORD: u32 = 0x40000000;
-
-pub const HIGH_WORD: u32 = 0x50000000;
-
-pub const COUNT_WORD: u32 = 0x60000000;
-
-pub const COEFFICIENT_WORD: u32 = 0x70000000;
-
-pub const TOLERANCE_WORD: u32 = 0x80000000;
-
-// Limits (01, 'The words', 'Entry types').
-pub const LAST_PARTY: u32 = 999;
-
-pub const LAST_DAY: u32 = 36524;
-
-pub const MOST_VOLUME: u64 = 1000000000;
-
-pub const MOST_MONEY: u64 = 1000000000000;
-
-pub const MOST_ENTRIES: usize = 3072;
-
-pub const MOST_COEFFICIENT: u32 = 1000;
-
-pub const MOST_TOLERANCE: u32 = 200000000;
-
-// Types and statuses with a rule of their own.
-pub const BILATERAL: u32 = 6;
-
-pub const MARK: u32 = 21;
-
-pub const STANDING: u32 = 0;
-
-pub const WITHDRAWN: u32 = 1;
-
-pub const CANCELLED: u32 = 2;
+use rules::bounds::LAST_DAY;
+use rules::bounds::LAST_PARTY;
+use rules::bounds::MOST_ENTRIES;
+use rules::bounds::MOST_MONEY;
+use rules::bounds::MOST_VOLUME;
+use rules::causes::BAD_AMOUNT;
+use rules::causes::BAD_COUNTERPARTY;
+use rules::causes::BAD_DAY;
+use rules::causes::BAD_PARTY;
+use rules::causes::BAD_TYPE;
+use rules::causes::DAY_CLOSED;
+use rules::causes::NO_ENTRY;
+use rules::layout::BILATERAL;
+use rules::layout::CANCELLED;
+use rules::layout::COUNTERPARTIES;
+use rules::layout::DAY_WORD;
+use rules::layout::ENTRY_WORDS;
+use rules::layout::FIGURES_WORD;
+use rules::layout::HEAD_WORDS;
+use rules::layout::HIGH_WORD;
+use rules::layout::KIND;
+use rules::layout::LOW_AMOUNT;
+use rules::layout::LOW_WORD;
+use rules::layout::MARK;
+use rules::layout::PARTY_WORD;
+use rules::layout::STANDING;
+use rules::layout::STATUS;
+use rules::layout::TYPES;
+use rules::layout::WITHDRAWN;
 
 // Checks 3 to 7 of a post, one each (01, 'Entry types').
 pub fn party_ok(party: u32) -> bool
@@ -188,10 +162,10 @@ fn words_ok(party: u32, day: u32, figures: u32, low: u32, high: u32) -> bool
         return false;
     }
     let named = figures % KIND;
-    let entry_type = named % 256;
-    let counterparty = named / 256 % 65536;
-    let status = named / 16777216;
-    let amount = (low % KIND) as u64 + (high % KIND) as u64 * 268435456;
+    let entry_type = named % TYPES;
+    let counterparty = named / TYPES % COUNTERPARTIES;
+    let status = named / STATUS;
+    let amount = (low % KIND) as u64 + (high % KIND) as u64 * LOW_AMOUNT;
     if !((PARTY_WORD < party) & (party <= PARTY_WORD + LAST_PARTY)) {
         return (party / KIND == 1)
             & mark_ok(
@@ -228,7 +202,7 @@ pub fn entries_ok(book: &[u32], count: usize) -> bool
 {
     let mut i = 0;
     while i < count {
-        if !entry_ok(book, 3 + 5 * i) {
+        if !entry_ok(book, HEAD_WORDS + ENTRY_WORDS * i) {
             return false;
         }
         i += 1;
@@ -240,10 +214,10 @@ pub fn entries_ok(book: &[u32], count: usize) -> bool
 pub fn room(lent: usize) -> usize
     ensures { λ r. ⌜ r ≡ roomIn lent ⌝ }
 {
-    if lent < 3 {
+    if lent < HEAD_WORDS {
         return 0;
     }
-    let places = (lent - 3) / 5;
+    let places = (lent - HEAD_WORDS) / ENTRY_WORDS;
     if places < MOST_ENTRIES {
         places
     } else {
@@ -277,7 +251,7 @@ pub fn tolerance_of(book: &[u32]) -> u32
 pub fn place_of(number: u32) -> usize
     ensures { λ r. ⌜ r ≡ placeOf number ⌝ }
 {
-    3 + 5 * (number as usize)
+    HEAD_WORDS + ENTRY_WORDS * (number as usize)
 }
 
 // The figures of the entry at a place.
@@ -299,28 +273,28 @@ pub fn type_at(book: &[u32], at: usize) -> u32
     requires { ⌜ at + 5 ≤ length (now book) ⌝ }
     ensures { λ r. ⌜ r ≡ key (decode (drop at (now (book .entry)))) .type ⌝ }
 {
-    book[at + 2] % KIND % 256
+    book[at + 2] % KIND % TYPES
 }
 
 pub fn counterparty_at(book: &[u32], at: usize) -> u32
     requires { ⌜ at + 5 ≤ length (now book) ⌝ }
     ensures { λ r. ⌜ r ≡ key (decode (drop at (now (book .entry)))) .counterparty ⌝ }
 {
-    book[at + 2] % KIND / 256 % 65536
+    book[at + 2] % KIND / TYPES % COUNTERPARTIES
 }
 
 pub fn status_at(book: &[u32], at: usize) -> u32
     requires { ⌜ at + 5 ≤ length (now book) ⌝ }
     ensures { λ r. ⌜ r ≡ decode (drop at (now (book .entry))) .label .status ⌝ }
 {
-    book[at + 2] % KIND / 16777216
+    book[at + 2] % KIND / STATUS
 }
 
 pub fn amount_at(book: &[u32], at: usize) -> u64
     requires { ⌜ at + 5 ≤ length (now book) ⌝ }
     ensures { λ r. ⌜ r ≡ decode (drop at (now (book .entry))) .amount ⌝ }
 {
-    (book[at + 3] % KIND) as u64 + (book[at + 4] % KIND) as u64 * 268435456
+    (book[at + 3] % KIND) as u64 + (book[at + 4] % KIND) as u64 * LOW_AMOUNT
 }
 
 // A mark of a day, and a day with a mark (01, 'Control of a day').
@@ -338,7 +312,7 @@ pub fn is_closed(book: &[u32], day: u32) -> bool
     let count = (book[0] % KIND) as usize;
     let mut i = 0;
     while i < count {
-        if is_mark_of(book, 3 + 5 * i, day) {
+        if is_mark_of(book, HEAD_WORDS + ENTRY_WORDS * i, day) {
             return true;
         }
         i += 1;
@@ -373,9 +347,9 @@ pub fn store_entry(
 {
     book[at] = PARTY_WORD + party;
     book[at + 1] = DAY_WORD + day;
-    book[at + 2] = FIGURES_WORD + (entry_type + counterparty * 256);
-    book[at + 3] = LOW_WORD + (amount % 268435456) as u32;
-    book[at + 4] = HIGH_WORD + (amount / 268435456) as u32;
+    book[at + 2] = FIGURES_WORD + (entry_type + counterparty * TYPES);
+    book[at + 3] = LOW_WORD + (amount % LOW_AMOUNT) as u32;
+    book[at + 4] = HIGH_WORD + (amount / LOW_AMOUNT) as u32;
 }
 
 // Gives a standing entry another status; the rest of its kind 3 word stays.
@@ -385,8 +359,8 @@ pub fn set_status(book: &mut [u32], number: usize, status: u32)
     requires { ⌜ status ≤ 2 ⌝ }
     ensures { λ _. ⌜ now (book .exit) ≡ restatused status (now (book .entry)) number ⌝ }
 {
-    let at = 3 + 5 * number + 2;
-    book[at] = book[at] + status * 16777216;
+    let at = HEAD_WORDS + ENTRY_WORDS * number + 2;
+    book[at] = book[at] + status * STATUS;
 }
 
 // Why the entry at a place cannot be withdrawn, or 0.

@@ -8,7 +8,7 @@ use lib.ListN.{length}
 use Rattle.rules.specs.Words.{entries, countOf, coefficientOf, toleranceOf, roomIn}
 use Rattle.rules.specs.Control.{afterFirst, afterSecond}
 use Rattle.rules.proofs.BookLaws.{Stays}
-use Rattle.flags.specs.Tables.{flagged, noFlags, checked}
+use Rattle.detection.specs.Tables.{flagged, noFlags, checked}
 use Rattle.control.specs.Passes.{everyone}
 use Rattle.rules.proofs.CallLaws.{control-passes}
 use Rattle.control.proofs.RunLaws.{run-book, after-first, after-second, mark-room, run-answers, run-words, run-fits}

@@ -10,7 +10,7 @@ use Rattle.rules.specs.Words.{countOf, entries}
 use Rattle.rules.specs.Control.{isToCancel}
 use Rattle.rules.proofs.WordLaws.{book-facts}
 use Rattle.words.proofs.BookCode.{Placed, book-long}
-use Rattle.flags.specs.Tables.{flagged}
+use Rattle.detection.specs.Tables.{flagged}
 use Rattle.cells.proofs.ScanLaws.{scan-few, scan-end}
 use Rattle.control.proofs.CancelLaws.{Through, through-none, through-all, through-length, through-placed, through-party, through-read, through-cancelled, through-kept, count-more, count-few}
 use borrow.Author.Needs.{needs}

@@ -7,7 +7,7 @@ use native.Mathlib.Omega.{arith}
 use Rattle.numbers.specs.Sums.{sum, countBelow}
 use Rattle.numbers.proofs.SumLaws.{countBelow-le, countBelow-step}
 use Rattle.rules.specs.Control.{detectedParties}
-use Rattle.flags.specs.Tables.{flagged}
+use Rattle.detection.specs.Tables.{flagged}
 use borrow.Author.Needs.{needs}
 use Rattle.control.proofs.passes.count_flags.Statement.{statement}
 use Rattle.control.proofs.passes.count_flags.Tie as tie

@@ -1,5 +1,5 @@
 -- `control::passes::pass` meets its contract. Assumes nothing.
-use Rattle.flags.specs.Tables.{flagged}
+use Rattle.detection.specs.Tables.{flagged}
 use Rattle.control.proofs.RunLaws.{pass-counts}
 use borrow.Author.Needs.{needs}
 use Rattle.control.proofs.passes.pass.Statement.{statement}

@@ -1,8 +1,8 @@
 -- `dayfile::check::cause_at` meets its contract. Assumes nothing.
 use Rattle.rules.specs.DayFile.{emptyBlock}
-use Rattle.fileform.specs.Walk.{lineItem}
+use Rattle.file_walk.specs.Walk.{lineItem}
 use Rattle.dayfile.specs.Check.{causeBy}
-use Rattle.fileform.proofs.WalkLaws.{head-whole, line-whole, block-held, nothing-held, line-held}
+use Rattle.file_walk.proofs.WalkLaws.{head-whole, line-whole, block-held, nothing-held, line-held}
 use Rattle.dayfile.proofs.CheckLaws.{cause-of-one}
 use borrow.Author.Needs.{needs}
 use Rattle.dayfile.proofs.check.cause_at.Statement.{statement}

@@ -4,7 +4,7 @@ use mathlib.Core.Bool.{or-false}
 use Rattle.numbers.specs.Tests.{any}
 use Rattle.rules.specs.Words.{decode, countOf}
 use Rattle.rules.specs.Book.{isMarkOf}
-use Rattle.fileform.proofs.WalkLaws.{table-step}
+use Rattle.file_walk.proofs.WalkLaws.{table-step}
 use mathlib.Core.Path.{_≡_, sym, _∙_}
 use mathlib.Core.Bool.{false, _||_}
 use Prim.Native.Nat.{ℕ, _≤_, _<_, _+_, _*_, _-_, zero-le}

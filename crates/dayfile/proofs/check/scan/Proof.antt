@@ -4,9 +4,9 @@ use Prim.Native.Nat.{_≤_, _+_, _-_, zero-le}
 use native.Mathlib.Omega.{arith}
 use lib.ListN.{length}
 use Rattle.rules.specs.DayFile.{items, linesOf}
-use Rattle.fileform.specs.Walk.{leftItems}
+use Rattle.file_walk.specs.Walk.{leftItems}
 use Rattle.dayfile.specs.Check.{firstCause}
-use Rattle.fileform.proofs.WalkLaws.{items-end, past-within, walk-less}
+use Rattle.file_walk.proofs.WalkLaws.{items-end, past-within, walk-less}
 use Rattle.dayfile.proofs.CheckLaws.{cause-stops, cause-goes-on, lines-step, lines-at-most, scan-refused, scan-done}
 use borrow.Author.Needs.{needs}
 use Rattle.dayfile.proofs.check.scan.Statement.{statement}

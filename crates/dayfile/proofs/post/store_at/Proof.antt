@@ -7,7 +7,7 @@ use Rattle.numbers.specs.Tests.{all}
 use Rattle.rules.specs.Entry.{keyOf, recordOf, legal, standing}
 use Rattle.rules.specs.DayFile.{linesOf}
 use Rattle.dayfile.specs.Check.{storedFrom}
-use Rattle.fileform.proofs.WalkLaws.{line-whole}
+use Rattle.file_walk.proofs.WalkLaws.{line-whole}
 use Rattle.dayfile.proofs.PostLaws.{no-line-stored, one-line-stored, one-line-legal}
 use borrow.Author.Needs.{needs}
 use Rattle.dayfile.proofs.post.store_at.Statement.{statement}

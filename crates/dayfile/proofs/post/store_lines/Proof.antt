@@ -7,9 +7,9 @@ use lib.ListN.{length}
 use Rattle.numbers.specs.Tests.{all}
 use Rattle.rules.specs.Entry.{legal}
 use Rattle.rules.specs.DayFile.{items, linesOf}
-use Rattle.fileform.specs.Walk.{leftItems}
+use Rattle.file_walk.specs.Walk.{leftItems}
 use Rattle.dayfile.specs.Check.{storedFrom}
-use Rattle.fileform.proofs.WalkLaws.{items-end, past-within, walk-less}
+use Rattle.file_walk.proofs.WalkLaws.{items-end, past-within, walk-less}
 use Rattle.dayfile.proofs.CheckLaws.{lines-step}
 use Rattle.dayfile.proofs.PostLaws.{stored-step, legal-step}
 use borrow.Author.Needs.{needs}

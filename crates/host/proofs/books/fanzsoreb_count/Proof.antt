@@ -1,8 +1,8 @@
 -- `host::books::fanzsoreb_count` meets its contract. Assumes nothing.
 use mathlib.Core.Path.{_∙_}
 use borrow.Author.Needs.{needs}
-use Rattle.coding.proofs.CodingLaws.{parts}
-use Rattle.coding.proofs.CallLaws.{on-count}
+use Rattle.word_bytes.proofs.CodingLaws.{parts}
+use Rattle.word_bytes.proofs.CallLaws.{on-count}
 use Rattle.host.proofs.books.fanzsoreb_count.Statement.{statement}
 use Rattle.host.proofs.books.fanzsoreb_count.Tie as tie
 

@@ -1,8 +1,8 @@
 -- `host::books::fanzsoreb_entry` meets its contract. Assumes nothing.
 use mathlib.Core.Path.{_∙_}
 use borrow.Author.Needs.{needs}
-use Rattle.coding.proofs.CodingLaws.{parts}
-use Rattle.coding.proofs.CallLaws.{on-entry}
+use Rattle.word_bytes.proofs.CodingLaws.{parts}
+use Rattle.word_bytes.proofs.CallLaws.{on-entry}
 use Rattle.host.proofs.books.fanzsoreb_entry.Statement.{statement}
 use Rattle.host.proofs.books.fanzsoreb_entry.Tie as tie
 

@@ -1,9 +1,9 @@
 -- `host::books::fanzsoreb_is_book` meets its contract. Assumes nothing.
 use mathlib.Core.Path.{_∙_, ap}
 use borrow.Author.Needs.{needs}
-use Rattle.coding.specs.Bytes.{yesNo}
-use Rattle.coding.proofs.CodingLaws.{parts, yes-byte}
-use Rattle.coding.proofs.CallLaws.{on-is-book}
+use Rattle.word_bytes.specs.Bytes.{yesNo}
+use Rattle.word_bytes.proofs.CodingLaws.{parts, yes-byte}
+use Rattle.word_bytes.proofs.CallLaws.{on-is-book}
 use Rattle.host.proofs.books.fanzsoreb_is_book.Statement.{statement}
 use Rattle.host.proofs.books.fanzsoreb_is_book.Tie as tie
 

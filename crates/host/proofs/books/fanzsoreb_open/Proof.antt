@@ -2,8 +2,8 @@
 use mathlib.Core.Path.{_∙_}
 use borrow.Author.Needs.{needs}
 use borrow.Author.Tests.{eq-eqb}
-use Rattle.coding.proofs.CodingLaws.{parts}
-use Rattle.coding.proofs.CallLaws.{open-odd, on-open, open-bytes}
+use Rattle.word_bytes.proofs.CodingLaws.{parts}
+use Rattle.word_bytes.proofs.CallLaws.{open-odd, on-open, open-bytes}
 use Rattle.host.proofs.books.fanzsoreb_open.Statement.{statement}
 use Rattle.host.proofs.books.fanzsoreb_open.Tie as tie
 

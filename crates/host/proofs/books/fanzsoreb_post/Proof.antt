@@ -3,8 +3,8 @@ use mathlib.Core.Path.{_∙_, ap}
 use borrow.Author.Needs.{needs}
 use Rattle.rules.specs.Entry.{Key, keyOf}
 use Rattle.rules.specs.Calls.{Change, post}
-use Rattle.coding.proofs.CodingLaws.{parts}
-use Rattle.coding.proofs.CallLaws.{on-change, change-bytes}
+use Rattle.word_bytes.proofs.CodingLaws.{parts}
+use Rattle.word_bytes.proofs.CallLaws.{on-change, change-bytes}
 use Rattle.host.proofs.books.fanzsoreb_post.Statement.{statement}
 use Rattle.host.proofs.books.fanzsoreb_post.Tie as tie
 

@@ -1,8 +1,8 @@
 -- `host::collaterals::collateral_on` meets its contract. Assumes nothing.
 use mathlib.Core.Path.{_∙_}
 use borrow.Author.Needs.{needs}
-use Rattle.coding.proofs.CodingLaws.{parts}
-use Rattle.coding.proofs.CallLaws.{on-collateral}
+use Rattle.word_bytes.proofs.CodingLaws.{parts}
+use Rattle.word_bytes.proofs.CallLaws.{on-collateral}
 use Rattle.host.proofs.collaterals.collateral_on.Statement.{statement}
 use Rattle.host.proofs.collaterals.collateral_on.Tie as tie
 

@@ -5,7 +5,7 @@ use mir.Syntax.{w64}
 use mir.ValLaws.{toZ-ofZ}
 use Rattle.rules.specs.Refusals.{notABook}
 use Rattle.rules.specs.Collateral.{collateralAnswer, refusedCollateral}
-use Rattle.coding.specs.Bytes.{onWords}
+use Rattle.word_bytes.specs.Bytes.{onWords}
 use Rattle.host.proofs.collaterals.fanzsoreb_collateral.Statement.{statement}
 use Rattle.host.proofs.collaterals.fanzsoreb_collateral.Tie as tie
 

@@ -5,7 +5,7 @@ use mir.Syntax.{w64}
 use mir.Val.{boolByte}
 use mir.ValLaws.{toZ-ofZ}
 use Rattle.rules.specs.Balance.{isDetected}
-use Rattle.coding.proofs.CodingLaws.{yes-byte}
+use Rattle.word_bytes.proofs.CodingLaws.{yes-byte}
 use Rattle.host.proofs.positions.fanzsoreb_detected.Statement.{statement}
 use Rattle.host.proofs.positions.fanzsoreb_detected.Tie as tie
 

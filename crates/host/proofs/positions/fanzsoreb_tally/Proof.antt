@@ -1,8 +1,8 @@
 -- `host::positions::fanzsoreb_tally` meets its contract. Assumes nothing.
 use mathlib.Core.Path.{_∙_}
 use borrow.Author.Needs.{needs}
-use Rattle.coding.proofs.CodingLaws.{parts}
-use Rattle.coding.proofs.CallLaws.{on-tally}
+use Rattle.word_bytes.proofs.CodingLaws.{parts}
+use Rattle.word_bytes.proofs.CallLaws.{on-tally}
 use Rattle.host.proofs.positions.fanzsoreb_tally.Statement.{statement}
 use Rattle.host.proofs.positions.fanzsoreb_tally.Tie as tie
 

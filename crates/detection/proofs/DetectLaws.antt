@@ -1,0 +1,56 @@
+-- The parties that the table detects are those of the definition. Assumes nothing.
+use mathlib.Core.Path.{_≡_, fun-ext}
+use mathlib.Core.Logic.{inl, inr}
+use mathlib.Core.Bool.{Bool, true}
+use mathlib.Core.List.{List}
+use Prim.Native.Nat.{ℕ, _+_, _*_}
+use native.Mathlib.Nat.{le-refl}
+use lib.ListN.{getD}
+use Rattle.numbers.proofs.TestLaws.{bool-cases}
+use Rattle.rules.specs.Entry.{partyOk}
+use Rattle.rules.specs.Words.{isBook, entries, countOf, coefficientOf, toleranceOf}
+use Rattle.rules.specs.Balance.{balance}
+use Rattle.rules.specs.Control.{detectedIn}
+use Rattle.rules.proofs.WordLaws.{book-facts, within-true}
+use Rattle.cells.specs.Cells.{AtMost}
+use Rattle.cells.proofs.ScanLaws.{table-to}
+use Rattle.tally.specs.Bounded.{Bounded, mostSum}
+use Rattle.detection.specs.Tables.{noFlags, partyCells, tableCells, tallyAt, boughtCell, tableOf, detectedAmong, checked, Flaggable}
+use Rattle.detection.proofs.TableLaws.{day-limited, length-table, sum-at, bought-cell, tally-cells}
+
+module _ (ws : List ℕ) (b : isBook ws ≡ true) (d : ℕ) where
+  table-within : AtMost mostSum (tableOf d (entries ws))
+  unfolding tableOf entries
+  table-within = table-to ws b (day-limited d) tableCells (countOf ws) (le-refl (countOf ws))
+
+  table-bounded : (p : ℕ) → Bounded (tallyAt (tableOf d (entries ws)) p) (getD (tableOf d (entries ws)) (boughtCell p) 0) (coefficientOf ws) (toleranceOf ws)
+  table-bounded p =
+      let f = book-facts ws b in
+      record {
+        sums = λ i h. rw (sum-at (tableOf d (entries ws)) p i h) (table-within .at-most (partyCells * p + i));
+        bought = table-within .at-most (boughtCell p);
+        coefficient = f .coefficient;
+        tolerance = f .tolerance;
+      }
+
+  pub flaggable : (cells : List ℕ) (flags : List Bool) → cells ≡ tableOf d (entries ws) → flags ≡ noFlags → Flaggable cells (coefficientOf ws) (toleranceOf ws) flags
+  flaggable cells flags e n =
+      rw e
+      (record {
+        long = length-table d (entries ws);
+        bounded = λ p low high. table-bounded p;
+        none = n;
+      })
+
+  pub table-detects : (cells : List ℕ) (among : List Bool) → cells ≡ tableOf d (entries ws) → detectedAmong cells (coefficientOf ws) (toleranceOf ws) among ≡ checked ws d among
+  unfolding detectedAmong checked detectedIn balance
+  table-detects cells among e = fun-ext at
+    where
+      at : (p : ℕ) → detectedAmong cells (coefficientOf ws) (toleranceOf ws) among p ≡ checked ws d among p
+      at p =
+          elim (bool-cases (partyOk p)) [
+            | inl k ↦
+                let r = within-true 1 999 p k in
+                rw (e, tally-cells d (entries ws) p (r .1), bought-cell d (entries ws) p (r .1) (r .0))
+            | inr k ↦ rw k
+          ]

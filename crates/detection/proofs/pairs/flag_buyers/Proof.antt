@@ -1,0 +1,26 @@
+-- `detection::pairs::flag_buyers` meets its contract. Assumes nothing.
+use mathlib.Core.Path.{_≡_, refl, ap, _∙_}
+use Rattle.rules.specs.Words.{entries}
+use Rattle.rules.proofs.WordLaws.{book-facts}
+use Rattle.detection.specs.Tables.{flagged, noPairs, buyersOf}
+use Rattle.detection.proofs.PairLaws.{buyers-flagged}
+use borrow.Author.Needs.{needs}
+use Rattle.detection.proofs.pairs.flag_buyers.Statement.{statement}
+use Rattle.detection.proofs.pairs.flag_buyers.Tie as tie
+
+mark-pairs-requires : tie.Need-mark-pairs-requires
+unfolding noPairs
+mark-pairs-requires c κs = (c .before .before .pre .0, refl)
+
+mark-buyers-requires : tie.Need-mark-buyers-requires
+mark-buyers-requires c κs = c .before .before .before .before .before .pre
+
+returns : tie.Need-returns
+returns c =
+    let m = c .before .before .before in
+    let s = m .before .before .before in
+    ap flagged (c .mark-buyers .ensures ∙ ap (λ pairs. buyersOf (s .args .day) pairs (entries (s .args .book .now))) (m .mark-pairs .ensures))
+    ∙ buyers-flagged (s .args .day) (entries (s .args .book .now)) (book-facts (s .args .book .now) (s .pre .0) .legals)
+
+pub flag-buyers-spec : {M : Type 1} → statement M
+flag-buyers-spec = tie.close (tie.spec mark-pairs-requires mark-buyers-requires returns)

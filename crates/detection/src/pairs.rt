@@ -1,0 +1,108 @@
+// Internal: the buyers of repeated pairs, by two scans of a checked book. A caller meets each `requires`.
+ghost use mathlib.Core.Path.{_≡_};
+ghost use mathlib.Core.Bool.{true};
+ghost use Rattle.calendar.specs.Calendar.{monthOf};
+ghost use Rattle.rules.specs.Entry.{legal};
+ghost use Rattle.rules.specs.Words.{isBook, entries};
+ghost use Rattle.rules.specs.Control.{isRepeatedBuyer};
+ghost use Rattle.cells.specs.Cells.{recordRead};
+ghost use Rattle.detection.specs.Tables.{flagged, noFlags, noPairs, isOther, Paired, pairOf, pairMarked, pairsOf, buyerMarked, buyersOf};
+use crate::bits;
+use crate::bits::Bits;
+use crate::sums::Flags;
+use rules::EntryRead;
+use rules::layout::CANCELLED;
+use rules::layout::ENTRY_WORDS;
+use rules::layout::HEAD_WORDS;
+
+// The billing period of a day.
+fn period_of(day: u32) -> u32
+    ensures { λ r. ⌜ r ≡ monthOf day ⌝ }
+{
+    calendar::month_of(day)
+}
+
+// A cancelled entry of another day of the same billing period.
+fn is_other(e: EntryRead, day: u32, period: u32) -> bool
+    requires { ⌜ period ≡ monthOf day ⌝ }
+    ensures { λ r. ⌜ r ≡ isOther day (recordRead e) ⌝ }
+{
+    if !((e.status == CANCELLED) & !(e.day == day)) {
+        return false;
+    }
+    period_of(e.day) == period
+}
+
+// The bit of an entry's pair: 1,024 bits a seller, one a buyer.
+fn pair_of(e: EntryRead) -> usize
+    requires { ⌜ Paired (recordRead e) ⌝ }
+    ensures { λ r. ⌜ r ≡ pairOf (recordRead e) ⌝ }
+{
+    (1024 * e.party + e.counterparty) as usize
+}
+
+fn mark_pair(pairs: &mut Bits, e: EntryRead, day: u32, period: u32)
+    requires { ⌜ period ≡ monthOf day ⌝ }
+    requires { ⌜ legal (recordRead e) ≡ true ⌝ }
+    ensures { λ _. ⌜ now (pairs .exit) ≡ pairMarked day (recordRead e) (now (pairs .entry)) ⌝ }
+{
+    if is_other(e, day, period) {
+        let pair = pair_of(e);
+        bits::set_bit(pairs, pair);
+    }
+}
+
+// Marks the pairs with a cancelled entry of another day of the billing period.
+fn mark_pairs(book: &[u32], day: u32, pairs: &mut Bits)
+    requires { ⌜ isBook (now book) ≡ true ⌝ }
+    requires { ⌜ now pairs ≡ noPairs ⌝ }
+    ensures { λ _. ⌜ now (pairs .exit) ≡ pairsOf day (entries (now (book .entry))) ⌝ }
+{
+    let period = period_of(day);
+    let count = words::count_of(book) as usize;
+    let mut i = 0;
+    while i < count {
+        let e = words::read_at(book, HEAD_WORDS + ENTRY_WORDS * i);
+        mark_pair(pairs, e, day, period);
+        i += 1;
+    }
+}
+
+// Flags the buyer of a cancelled entry of the day whose pair is marked.
+fn mark_buyer(buyers: &mut Flags, e: EntryRead, day: u32, pairs: &Bits)
+    requires { ⌜ legal (recordRead e) ≡ true ⌝ }
+    ensures { λ _. ⌜ now (buyers .exit) ≡ buyerMarked day (now (pairs .entry)) (recordRead e) (now (buyers .entry)) ⌝ }
+{
+    if !((e.status == CANCELLED) & (e.day == day)) {
+        return;
+    }
+    let pair = pair_of(e);
+    if bits::bit_at(pairs, pair) {
+        buyers[e.counterparty as usize] = true;
+    }
+}
+
+fn mark_buyers(book: &[u32], day: u32, pairs: &Bits, buyers: &mut Flags)
+    requires { ⌜ isBook (now book) ≡ true ⌝ }
+    requires { ⌜ now buyers ≡ noFlags ⌝ }
+    ensures { λ _. ⌜ now (buyers .exit) ≡ buyersOf day (now (pairs .entry)) (entries (now (book .entry))) ⌝ }
+{
+    let count = words::count_of(book) as usize;
+    let mut i = 0;
+    while i < count {
+        let e = words::read_at(book, HEAD_WORDS + ENTRY_WORDS * i);
+        mark_buyer(buyers, e, day, pairs);
+        i += 1;
+    }
+}
+
+// Flags the buyers of repeated pairs: those with cancelled entries of the day and of another day of the billing period.
+pub fn flag_buyers(book: &[u32], day: u32, buyers: &mut Flags)
+    requires { ⌜ isBook (now book) ≡ true ⌝ }
+    requires { ⌜ now buyers ≡ noFlags ⌝ }
+    ensures { λ _. ⌜ flagged (now (buyers .exit)) ≡ isRepeatedBuyer day (entries (now (book .entry))) ⌝ }
+{
+    let mut pairs = [0u64; bits::WORDS];
+    mark_pairs(book, day, &mut pairs);
+    mark_buyers(book, day, &pairs, buyers);
+}

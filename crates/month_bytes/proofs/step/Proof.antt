@@ -1,0 +1,50 @@
+-- `month_bytes::step` meets its contract. Assumes nothing.
+use mathlib.Core.Path.{_∙_, ap}
+use borrow.Author.Needs.{needs}
+use Rattle.rules.specs.Month.{monthAnswer}
+use Rattle.word_bytes.proofs.TableLaws.{tables-read}
+use Rattle.month_bytes.proofs.step.Statement.{statement}
+use Rattle.month_bytes.proofs.step.Tie as tie
+
+read-words-requires : tie.Need-read-words-requires
+read-words-requires c κs = search needs
+
+read-figures-requires : tie.Need-read-figures-requires
+read-figures-requires c κs = search needs
+
+read-figures-requires-2 : tie.Need-read-figures-requires-2
+read-figures-requires-2 c κs = search needs
+
+month-step-requires : tie.Need-month-step-requires
+month-step-requires c κs = search needs
+
+same-length : tie.Need-same-length
+same-length c = search needs
+
+same-length-2 : tie.Need-same-length-2
+same-length-2 c = search needs
+
+same-length-3 : tie.Need-same-length-3
+same-length-3 c = search needs
+
+returns : tie.Need-returns
+returns c =
+    let d = c .before .before .before .before .before in
+    let v = d .before .before .before in
+    let p = v .before .before .before .before in
+    let s = p .before .before .before .before .before .before in
+    c .month-step .ensures
+    ∙ ap monthAnswer (tables-read (s .pre) (p .read-words .ensures) (v .read-figures .ensures) (d .read-figures2 .ensures) (s .args .rows) (s .args .group))
+
+pub step-spec : {M : Type 1} → statement M
+step-spec =
+    tie.close
+    (tie.spec
+    read-words-requires
+    read-figures-requires
+    read-figures-requires-2
+    month-step-requires
+    same-length
+    same-length-2
+    same-length-3
+    returns)

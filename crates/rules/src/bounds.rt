@@ -1,0 +1,40 @@
+// The limits of document 01, by name.
+
+// Parties, days and amounts (01, 'Entry types', 'Units and days').
+pub const LAST_PARTY: u32 = 999;
+
+pub const LAST_DAY: u32 = 36524;
+
+pub const DAYS: usize = 36525;
+
+pub const MOST_VOLUME: u64 = 1000000000;
+
+pub const MOST_MONEY: u64 = 1000000000000;
+
+// A book (01, 'The words'), and the figures of an opening that names none.
+pub const MOST_ENTRIES: usize = 3072;
+
+pub const MOST_COEFFICIENT: u32 = 1000;
+
+pub const MOST_TOLERANCE: u32 = 200000000;
+
+pub const DEFAULT_COEFFICIENT: u32 = 110;
+
+pub const DEFAULT_TOLERANCE: u32 = 600000;
+
+// Month tables: hours, groups, figures of all groups, and each figure (01, 'Month step').
+pub const MOST_HOURS: usize = 745;
+
+pub const MOST_ROWS: u32 = 64;
+
+pub const MOST_FIGURES: usize = 47680;
+
+pub const MOST_PRICE: u32 = 1000000;
+
+pub const MOST_IMBALANCE: u64 = 10000000;
+
+// A figure of the sales ceiling (01, 'Sales ceiling').
+pub const MOST_OFFER: u32 = 1000000000;
+
+// A day file (01, 'Day file').
+pub const MOST_FILE_BYTES: usize = 65536;

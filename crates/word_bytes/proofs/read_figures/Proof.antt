@@ -1,0 +1,77 @@
+-- `word_bytes::read_figures` meets its contract. The loop's invariant: the first i figures are those of the bytes. Assumes nothing.
+use mathlib.Core.Path.{_≡_, sym, _∙_, ap}
+use Prim.Native.Nat.{_≤_, _-_}
+use native.Mathlib.Omega.{arith}
+use borrow.Author.Needs.{needs}
+use lib.IntN.{pos}
+use lib.ListN.{length, take, length-set}
+use mir.Syntax.{w32}
+use mir.ValLaws.{toZ-ofZ}
+use Rattle.word_bytes.specs.Tables.{signedOf, figuresOf}
+use Rattle.word_bytes.proofs.BytesLaws.{fill-step, filled}
+use Rattle.word_bytes.proofs.TableLaws.{length-figures, figure-at}
+use Rattle.word_bytes.proofs.read_figures.Statement.{statement}
+use Rattle.word_bytes.proofs.read_figures.Tie as tie
+
+abbrev Inv-loop : tie.InvT-loop
+Inv-loop bytes figures₀ i₀ figures i = (i ≤ length figures₀) × (length figures ≡ length figures₀) × (take i figures ≡ take i (figuresOf bytes))
+
+abbrev μ-loop : tie.MeasureT-loop
+μ-loop bytes figures₀ i₀ figures i = length figures₀ - i
+
+loop-holds : tie.Need-loop-holds Inv-loop μ-loop
+loop-holds c = search needs
+
+mul-word-at : tie.Need-mul-word-at Inv-loop μ-loop
+mul-word-at c = search needs
+
+word-at-requires : tie.Need-word-at-requires Inv-loop μ-loop
+word-at-requires c κs = search needs
+
+signed-requires : tie.Need-signed-requires Inv-loop μ-loop
+signed-requires c κs = search needs
+
+mul-t8 : tie.Need-mul-t8 Inv-loop μ-loop
+mul-t8 c = search needs
+
+slice-set-from-figures : tie.Need-slice-set-from-figures Inv-loop μ-loop
+slice-set-from-figures c = search needs
+
+add-i : tie.Need-add-i Inv-loop μ-loop
+add-i c = search needs
+
+loop-less : tie.Need-loop-less Inv-loop μ-loop
+loop-less c = search needs
+
+loop-again : tie.Need-loop-again Inv-loop μ-loop
+loop-again c =
+    let l = c .before .before .before .loop in
+    let bs = c .before .before .before .before .before .args .bytes .now in
+    let v = toZ-ofZ w32 (c .signed .result) (record { sfits = c .signed .ok }) ∙ c .signed .ensures ∙ ap signedOf (c .before .word-at .ensures) in
+    (search needs, simp length-set (search needs), fill-step (pos 0) _ _ (l .i) _ (omega arith) (omega (arith, length-figures bs)) (v ∙ sym (figure-at bs (l .i) (omega arith))) (l .inv .2))
+
+same-length : tie.Need-same-length Inv-loop μ-loop
+same-length c = search needs
+
+returns : tie.Need-returns Inv-loop μ-loop
+returns c =
+    let l = c .before .loop in
+    filled _ _ (l .i) _ (l .inv .0) (l .inv .1) (c .loop-test .left) (l .inv .2)
+
+pub read-figures-spec : {M : Type 1} → statement M
+read-figures-spec =
+    tie.close
+    (tie.spec
+    Inv-loop
+    μ-loop
+    loop-holds
+    mul-word-at
+    word-at-requires
+    signed-requires
+    mul-t8
+    slice-set-from-figures
+    add-i
+    loop-less
+    loop-again
+    same-length
+    returns)
