@@ -103,13 +103,12 @@ further =
     ∷ fileBalanceIs sample 2 (minus 77000000)
     ∷ fileNames sample 2 9000
     ∷ fileIs (take 28 sample) 2 0
-    -- control: a buyer's lost purchase is not counted inside the first pass; a repeated pair; another month
-    ∷ controlIs (book (chain 9000)) 9000 1 0 1
+    -- control: a buyer's lost purchase is not counted inside the first pass; a repeated pair, and what a control of it counts; another month
     ∷ statusIs oneDay 0 2
     ∷ statusIs oneDay 1 0
     ∷ controlIs august 9000 1 1 2
     ∷ statusIs (controlWords august 9000) 3 2
-    ∷ controlIs september 9000 1 0 1
+    ∷ statusIs (controlWords september 9000) 3 0
     -- a closed day takes no bilateral sale and gives none back; an export goes on
     ∷ eqb (postCause oneDay (keyOf 4 9000 6 5) 1) 8
     ∷ eqb (postCause oneDay (keyOf 4 9000 6 0) 1) 0
