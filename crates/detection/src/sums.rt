@@ -11,7 +11,6 @@ ghost use Rattle.cells.specs.Cells.{addTo, added, blank, AtMost, recordRead};
 ghost use Rattle.tally.specs.Scan.{counts};
 ghost use Rattle.tally.specs.Bounded.{Bounded, mostSum};
 ghost use Rattle.detection.specs.Tables.{flagged, noFlags, partyCells, tableCells, dayCells, tableOf, tallyAt, boughtCell, Flaggable, detectedAmong, checked};
-use position::parts;
 use rules::EntryRead;
 use rules::SUMS;
 use rules::Tally;
@@ -19,6 +18,7 @@ use rules::layout::BILATERAL;
 use rules::layout::ENTRY_WORDS;
 use rules::layout::HEAD_WORDS;
 use rules::layout::STANDING;
+use tally::balances;
 
 // A flag for each number from 0 to 999; 0 is no party.
 pub const NUMBERS: usize = 1000;
@@ -107,7 +107,7 @@ fn is_detected(table: &Table, party: u32, coefficient: u32, tolerance: u32) -> b
     let sums = sums_of(table, party as usize);
     let bought = table[PARTY_CELLS * (party as usize) + SUMS];
     let tally = Tally { party, sums };
-    position::detected(parts::day_ahead_of(tally, bought, coefficient, tolerance))
+    position::detected(balances::day_ahead_of(tally, bought, coefficient, tolerance))
 }
 
 // Flags the detected ones among some parties.

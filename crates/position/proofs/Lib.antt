@@ -1,2 +1,1 @@
-pub mod BalanceLaws
 pub mod AnswerLaws

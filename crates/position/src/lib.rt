@@ -7,8 +7,6 @@ use rules::BalanceAnswer;
 use rules::Tally;
 use rules::TallyAnswer;
 
-pub mod parts;
-
 // The lowest cause of 1, 3 and 4 that holds, or 0.
 fn cause_of(book: &[u32], party: u32, day: u32) -> u32
     ensures { λ r. ⌜ r ≡ partyDayCause (now (book .entry)) party day ⌝ }
@@ -42,9 +40,9 @@ fn balance_of(ahead: bool, t: Tally, bought: u64, coefficient: u32, tolerance: u
     ensures { λ r. ⌜ r ≡ balanceOf (cond ahead dayAhead delivery) coefficient tolerance t bought ⌝ }
 {
     if ahead {
-        return parts::day_ahead_of(t, bought, coefficient, tolerance);
+        return tally::balances::day_ahead_of(t, bought, coefficient, tolerance);
     }
-    parts::delivery_of(t, bought, coefficient, tolerance)
+    tally::balances::delivery_of(t, bought, coefficient, tolerance)
 }
 
 // One pass over the book for either balance.

@@ -10,9 +10,9 @@ ghost use Rattle.file_names.specs.Names.{namesParty};
 ghost use Rattle.text.specs.Text.{Wrote, Whole};
 ghost use Rattle.report.specs.Asked.{Asked};
 ghost use Rattle.report.specs.Report.{header, refusal, lineText, lineOf, eachFrom, partyLines, allLines, reportInto, reportOn, mostText};
-use position::parts;
 use rules::bounds::DAYS;
 use rules::layout::BOOK_WORDS;
+use tally::balances;
 
 pub mod input;
 
@@ -40,8 +40,8 @@ fn put_pair(book: &[u32], party: u32, day: u32, out: &mut [u8], at: usize) -> us
     let bought = read.bought;
     let coefficient = words::coefficient_of(book);
     let tolerance = words::tolerance_of(book);
-    let ahead = parts::day_ahead_of(t, bought, coefficient, tolerance);
-    let due = parts::delivery_of(t, bought, coefficient, tolerance);
+    let ahead = balances::day_ahead_of(t, bought, coefficient, tolerance);
+    let due = balances::delivery_of(t, bought, coefficient, tolerance);
     put_line(out, at, party, day, ahead, due)
 }
 

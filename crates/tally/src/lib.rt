@@ -14,6 +14,8 @@ use rules::layout::ENTRY_WORDS;
 use rules::layout::HEAD_WORDS;
 use rules::layout::PARTY_WORD;
 
+pub mod balances;
+
 // The kind 3 word of a standing type 6 entry with counterparty 0: an export. Each counterparty adds 256.
 const EXPORT: u32 = 0x30000006;
 

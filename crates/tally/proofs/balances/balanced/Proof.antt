@@ -1,13 +1,13 @@
--- `position::parts::balanced` meets its contract. Assumes nothing.
+-- `tally::balances::balanced` meets its contract. Assumes nothing.
 use mathlib.Core.Path.{_∙_}
 use Prim.Native.Nat.{_*_}
 use native.Mathlib.Omega.{arith}
 use mir.Syntax.{w64}
 use mir.ValLaws.{toZ-ofZ}
 use borrow.Author.Needs.{needs}
-use Rattle.position.proofs.BalanceLaws.{less-larger, products}
-use Rattle.position.proofs.parts.balanced.Statement.{statement}
-use Rattle.position.proofs.parts.balanced.Tie as tie
+use Rattle.tally.proofs.BalanceLaws.{less-larger, products}
+use Rattle.tally.proofs.balances.balanced.Statement.{statement}
+use Rattle.tally.proofs.balances.balanced.Tie as tie
 
 mul-least : tie.Need-mul-least
 mul-least c = search needs

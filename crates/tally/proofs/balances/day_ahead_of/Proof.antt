@@ -1,13 +1,13 @@
--- `position::parts::day_ahead_of` meets its contract. Assumes nothing.
+-- `tally::balances::day_ahead_of` meets its contract. Assumes nothing.
 use mathlib.Core.Path.{_∙_}
 use native.Mathlib.Omega.{arith}
 use mir.Syntax.{w64}
 use mir.ValLaws.{toZ-ofZ}
 use borrow.Author.Needs.{needs}
 use Rattle.rules.specs.Balance.{dayAhead}
-use Rattle.position.proofs.BalanceLaws.{each-sum, sale-within, cover-within, balance-is}
-use Rattle.position.proofs.parts.day_ahead_of.Statement.{statement}
-use Rattle.position.proofs.parts.day_ahead_of.Tie as tie
+use Rattle.tally.proofs.BalanceLaws.{each-sum, sale-within, cover-within, balance-is}
+use Rattle.tally.proofs.balances.day_ahead_of.Statement.{statement}
+use Rattle.tally.proofs.balances.day_ahead_of.Tie as tie
 
 ahead-sale-requires : tie.Need-ahead-sale-requires
 ahead-sale-requires c κs = search needs

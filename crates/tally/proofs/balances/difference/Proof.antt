@@ -1,10 +1,10 @@
--- `position::parts::difference` meets its contract. Assumes nothing.
+-- `tally::balances::difference` meets its contract. Assumes nothing.
 use mir.Syntax.{w64}
 use mir.ValLaws.{toZ-ofZ}
 use borrow.Author.Needs.{needs}
-use Rattle.position.proofs.BalanceLaws.{difference-is, difference-fits}
-use Rattle.position.proofs.parts.difference.Statement.{statement}
-use Rattle.position.proofs.parts.difference.Tie as tie
+use Rattle.tally.proofs.BalanceLaws.{difference-is, difference-fits}
+use Rattle.tally.proofs.balances.difference.Statement.{statement}
+use Rattle.tally.proofs.balances.difference.Tie as tie
 
 cast-result : tie.Need-cast-result
 cast-result c = search needs

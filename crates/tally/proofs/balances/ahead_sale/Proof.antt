@@ -1,11 +1,11 @@
--- `position::parts::ahead_sale` meets its contract. Assumes nothing.
+-- `tally::balances::ahead_sale` meets its contract. Assumes nothing.
 use native.Mathlib.Omega.{arith}
 use borrow.Author.Needs.{needs}
 use Rattle.numbers.specs.Sums.{total}
 use Rattle.rules.specs.Balance.{saleSide}
-use Rattle.position.proofs.BalanceLaws.{each-sum}
-use Rattle.position.proofs.parts.ahead_sale.Statement.{statement}
-use Rattle.position.proofs.parts.ahead_sale.Tie as tie
+use Rattle.tally.proofs.BalanceLaws.{each-sum}
+use Rattle.tally.proofs.balances.ahead_sale.Statement.{statement}
+use Rattle.tally.proofs.balances.ahead_sale.Tie as tie
 
 array-read-result : tie.Need-array-read-result
 array-read-result c = search needs

@@ -1,13 +1,13 @@
--- `position::parts::delivery_of` meets its contract. Assumes nothing.
+-- `tally::balances::delivery_of` meets its contract. Assumes nothing.
 use mathlib.Core.Path.{_∙_}
 use native.Mathlib.Omega.{arith}
 use mir.Syntax.{w64}
 use mir.ValLaws.{toZ-ofZ}
 use borrow.Author.Needs.{needs}
 use Rattle.rules.specs.Balance.{delivery}
-use Rattle.position.proofs.BalanceLaws.{each-sum, sale-within, cover-within, sale-delivery, cover-delivery, balance-is}
-use Rattle.position.proofs.parts.delivery_of.Statement.{statement}
-use Rattle.position.proofs.parts.delivery_of.Tie as tie
+use Rattle.tally.proofs.BalanceLaws.{each-sum, sale-within, cover-within, sale-delivery, cover-delivery, balance-is}
+use Rattle.tally.proofs.balances.delivery_of.Statement.{statement}
+use Rattle.tally.proofs.balances.delivery_of.Tie as tie
 
 ahead-sale-requires : tie.Need-ahead-sale-requires
 ahead-sale-requires c κs = search needs
