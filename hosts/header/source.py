@@ -11,6 +11,7 @@ STRUCTS = {
     "CeilingAnswer": "ceiling_answer", "Controlled": "controlled", "FileRead": "file_read",
     "Collateral": "collateral_answer",
 }
+LENGTHS = {}  # lengths of arrays by the names of their constants
 
 
 def c_type(rattle):
@@ -28,8 +29,8 @@ def c_parameter(text):
 
 def c_field(text):
     name, rattle = re.fullmatch(r"pub (\w+): (.+)", text.strip()).groups()
-    array = re.fullmatch(r"\[(\w+); (\d+)\]", rattle)
-    return c_type(array[1]) + " " + name + "[" + array[2] + "]" if array else c_type(rattle) + " " + name
+    array = re.fullmatch(r"\[(\w+); (\w+)\]", rattle)
+    return c_type(array[1]) + " " + name + "[" + LENGTHS.get(array[2], array[2]) + "]" if array else c_type(rattle) + " " + name
 
 
 def parts(text):
@@ -41,6 +42,7 @@ def of_source(crates):
     for path in (crates / "host/src").glob("*.rt"):
         for name, given, answer in re.findall(r'pub extern "C" fn (\w+)\(([^)]*)\) -> (\w+)', path.read_text()):
             found.add(c_type(answer) + " " + name + "(" + (", ".join(map(c_parameter, parts(given))) or "void") + ")")
+    LENGTHS.update(re.findall(r"pub const (\w+): usize = (\d+);", (crates / "rules/src/lib.rt").read_text()))
     for name, fields in re.findall(r"#\[repr\(C\)\]\npub struct (\w+) \{(.*?)\n\}", (crates / "rules/src/lib.rt").read_text(), re.S):
         if name in STRUCTS:
             found.add("fanzsoreb_" + STRUCTS[name] + " { " + "; ".join(map(c_field, parts(fields))) + " }")
