@@ -82,9 +82,6 @@ pub fn put_word(file: &mut [u8], at: usize, word: u32) -> u32
     if file.len() - 4 < at {
         return BAD_LENGTH;
     }
-    file[at] = (word % 256) as u8;
-    file[at + 1] = (word / 256 % 256) as u8;
-    file[at + 2] = (word / 65536 % 256) as u8;
-    file[at + 3] = (word / 16777216) as u8;
+    word_bytes::put_word(file, at, word);
     0
 }

@@ -1,6 +1,6 @@
 // The month step on bytes (document 01, 'Month step').
 ghost use mathlib.Core.Path.{_≡_};
-ghost use Rattle.word_bytes.specs.Tables.{monthOnBytes};
+ghost use Rattle.month_bytes.specs.Tables.{monthOnBytes};
 use rules::MonthAnswer;
 
 // AOSMF and AEDM of a group's month, out of three tables.

@@ -2,7 +2,7 @@
 ghost use mathlib.Core.Path.{_≡_};
 ghost use lib.ListN.{length};
 ghost use Rattle.rules.specs.Month.{monthAnswer};
-ghost use Rattle.word_bytes.specs.Tables.{tablesIn, refusedMonth, monthOnBytes};
+ghost use Rattle.month_bytes.specs.Tables.{tablesIn, refusedMonth, monthOnBytes};
 ghost use Rattle.word_bytes.specs.Coding.{lengthsOk, Fitting, Within};
 use rules::Month;
 use rules::MonthAnswer;
@@ -11,6 +11,8 @@ use rules::bounds::MOST_HOURS;
 use rules::bounds::MOST_ROWS;
 use rules::causes::BAD_FIGURE;
 use rules::causes::BAD_LENGTH;
+
+mod figures;
 
 // Whether the lengths of the tables, in bytes, make whole figures and agree.
 fn lengths_ok(prices: usize, imbalance: usize, rows: u32, dm: usize) -> bool
@@ -52,8 +54,8 @@ fn step(
     ensures { λ r. ⌜ r ≡ monthAnswer (tablesIn (now (prices .entry)) (now (imbalance .entry)) rows (now (dm .entry)) group) ⌝ }
 {
     word_bytes::read_words(prices, words);
-    word_bytes::read_figures(imbalance, volumes);
-    word_bytes::read_figures(dm, controls);
+    figures::read_figures(imbalance, volumes);
+    figures::read_figures(dm, controls);
     month::month_step(words, volumes, rows, controls, group)
 }
 

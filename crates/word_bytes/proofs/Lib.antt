@@ -1,5 +1,4 @@
 -- Laws of bytes and words, and of a call on a book's bytes; the folders hold the proof of a function each.
 pub mod BytesLaws
-pub mod TableLaws
 pub mod CodingLaws
 pub mod CallLaws

@@ -6,7 +6,6 @@ ghost use lib.ListN.{length, take, drop};
 ghost use Rattle.numbers.specs.Causes.{ifDone};
 ghost use Rattle.rules.specs.DayFile.{wordsOf};
 ghost use Rattle.word_bytes.specs.Bytes.{bytesOf};
-ghost use Rattle.word_bytes.specs.Tables.{signedOf, figuresOf};
 ghost use Rattle.word_bytes.specs.Coding.{wordAt, overBytes, countIn, Decoded};
 use rules::layout::BOOK_WORDS;
 
@@ -36,31 +35,8 @@ pub fn read_words(bytes: &[u8], words: &mut [u32])
     }
 }
 
-// A word as a signed figure, two's complement.
-fn signed(word: u32) -> i32
-    ensures { λ r. ⌜ r ≡ signedOf word ⌝ }
-{
-    if word < 2147483648 {
-        word as i32
-    } else {
-        -1 - (4294967295 - word) as i32
-    }
-}
-
-// As many signed figures as there is place for, which the bytes have.
-pub fn read_figures(bytes: &[u8], figures: &mut [i32])
-    requires { ⌜ 4 * length (now figures) ≤ length (now bytes) ⌝ }
-    ensures { λ _. ⌜ now (figures .exit) ≡ take (length (now (figures .entry))) (figuresOf (now (bytes .entry))) ⌝ }
-{
-    let mut i = 0;
-    while i < figures.len() {
-        figures[i] = signed(word_at(bytes, 4 * i));
-        i += 1;
-    }
-}
-
 // A word's bytes at a byte.
-fn put_word(bytes: &mut [u8], at: usize, word: u32)
+pub fn put_word(bytes: &mut [u8], at: usize, word: u32)
     requires { ⌜ at + 4 ≤ length (now bytes) ⌝ }
     ensures { λ _. ⌜ now (bytes .exit) ≡ take at (now (bytes .entry)) ++ bytesOf (word ∷ []) ++ drop (at + 4) (now (bytes .entry)) ⌝ }
 {

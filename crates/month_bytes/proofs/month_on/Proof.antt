@@ -5,7 +5,7 @@ use borrow.Author.Needs.{needs}
 use borrow.Author.Tests.{not-true, not-false}
 use lib.ListN.{length}
 use Rattle.word_bytes.specs.Coding.{lengthsOk}
-use Rattle.word_bytes.proofs.TableLaws.{bad-lengths, many-rows, tables-within, most-figures, none-within, on-tables}
+use Rattle.month_bytes.proofs.TableLaws.{bad-lengths, many-rows, tables-within, most-figures, none-within, on-tables}
 use Rattle.month_bytes.proofs.month_on.Statement.{statement}
 use Rattle.month_bytes.proofs.month_on.Tie as tie
 

@@ -2,7 +2,7 @@
 use mathlib.Core.Path.{_∙_, ap}
 use borrow.Author.Needs.{needs}
 use Rattle.rules.specs.Month.{monthAnswer}
-use Rattle.word_bytes.proofs.TableLaws.{tables-read}
+use Rattle.month_bytes.proofs.TableLaws.{tables-read}
 use Rattle.month_bytes.proofs.step.Statement.{statement}
 use Rattle.month_bytes.proofs.step.Tie as tie
 

@@ -1,13 +1,13 @@
--- `word_bytes::signed` meets its contract. Assumes nothing.
+-- `month_bytes::figures::signed` meets its contract. Assumes nothing.
 use mathlib.Core.Path.{_∙_, ap}
 use native.Mathlib.Omega.{arith}
 use borrow.Author.Needs.{needs}
 use mir.Syntax.{w32}
 use mir.Val.{toZ, ofZ}
 use mir.ValLaws.{toZ-ofZ}
-use Rattle.word_bytes.proofs.TableLaws.{below-sign, above-sign, above-fits}
-use Rattle.word_bytes.proofs.signed.Statement.{statement}
-use Rattle.word_bytes.proofs.signed.Tie as tie
+use Rattle.month_bytes.proofs.TableLaws.{below-sign, above-sign, above-fits}
+use Rattle.month_bytes.proofs.figures.signed.Statement.{statement}
+use Rattle.month_bytes.proofs.figures.signed.Tie as tie
 
 cast-result : tie.Need-cast-result
 cast-result c = search needs

@@ -1,4 +1,4 @@
--- `word_bytes::read_figures` meets its contract. The loop's invariant: the first i figures are those of the bytes. Assumes nothing.
+-- `month_bytes::figures::read_figures` meets its contract. The loop's invariant: the first i figures are those of the bytes. Assumes nothing.
 use mathlib.Core.Path.{_≡_, sym, _∙_, ap}
 use Prim.Native.Nat.{_≤_, _-_}
 use native.Mathlib.Omega.{arith}
@@ -7,11 +7,11 @@ use lib.IntN.{pos}
 use lib.ListN.{length, take, length-set}
 use mir.Syntax.{w32}
 use mir.ValLaws.{toZ-ofZ}
-use Rattle.word_bytes.specs.Tables.{signedOf, figuresOf}
+use Rattle.month_bytes.specs.Tables.{signedOf, figuresOf}
 use Rattle.word_bytes.proofs.BytesLaws.{fill-step, filled}
-use Rattle.word_bytes.proofs.TableLaws.{length-figures, figure-at}
-use Rattle.word_bytes.proofs.read_figures.Statement.{statement}
-use Rattle.word_bytes.proofs.read_figures.Tie as tie
+use Rattle.month_bytes.proofs.TableLaws.{length-figures, figure-at}
+use Rattle.month_bytes.proofs.figures.read_figures.Statement.{statement}
+use Rattle.month_bytes.proofs.figures.read_figures.Tie as tie
 
 abbrev Inv-loop : tie.InvT-loop
 Inv-loop bytes figures₀ i₀ figures i = (i ≤ length figures₀) × (length figures ≡ length figures₀) × (take i figures ≡ take i (figuresOf bytes))

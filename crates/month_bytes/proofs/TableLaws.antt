@@ -17,10 +17,10 @@ use Rattle.numbers.specs.Tests.{every}
 use Rattle.numbers.proofs.TestLaws.{Holds, every-holds, holds-every, every-fails, bool-cases}
 use Rattle.rules.specs.DayFile.{wordsOf}
 use Rattle.rules.specs.Month.{tablesOf, monthCause, monthAnswer}
 use Rattle.word_bytes.specs.Bytes.{isWhole}
-use Rattle.word_bytes.specs.Tables.{signedOf, figuresOf, tablesIn, refusedMonth, monthOnBytes}
+use Rattle.month_bytes.specs.Tables.{signedOf, figuresOf, tablesIn, refusedMonth, monthOnBytes}
 use Rattle.word_bytes.specs.Coding.{wordAt, lengthsOk, Fitting, Within}
 use Rattle.word_bytes.proofs.BytesLaws.{length-words, word-at}
 
 minus-one-less : (n : ℕ) → negsuc 0 -ℤ pos n ≡ negsuc n
 minus-one-less zero = refl
