@@ -16,7 +16,7 @@ use Rattle.numbers.specs.Causes.{unless}
 use Rattle.numbers.proofs.TestLaws.{bool-cases, and-split, and-join, or-right, every-holds, all-append, any-append}
 use Rattle.numbers.proofs.SumLaws.{total-append, total-map, total-cong}
 use Rattle.numbers.proofs.CauseLaws.{clear-all, unless-zero, done-else}
-use Rattle.rules.specs.Entry.{Record, noRecord, withStatus, key, isCancelled, isMark, cancelled}
+use Rattle.rules.specs.Entry.{Record, noRecord, withStatus, statusWhere, key, isCancelled, isMark, cancelled}
 use Rattle.rules.specs.Words.{isBook, entries, countOf, coefficientOf, toleranceOf, roomIn, usedWords, laid}
 use Rattle.rules.specs.Book.{isClosed, isMarkOf, entryAt}
 use Rattle.rules.specs.Balance.{Volume, counted, countedTo, sumOf, boughtBy, tallyOf, balanceOf, balance, volumeTypes}
@@ -26,7 +26,8 @@ use Rattle.rules.specs.Calls.{control, changed, causeOf, wordsAfter}
 use Rattle.rules.proofs.WordLaws.{book-facts, book-laid}
 use Rattle.rules.proofs.SumOrder.{forTests, toTests, counts-for, counts-to}
 use Rattle.rules.proofs.BookLaws.{Stays, entry-at}
-use Rattle.rules.proofs.CancelLaws.{IsSale, cancelOne, to-cancel-is-sale, second-length, controlled-length}
+use Rattle.rules.proofs.StatusLaws.{changeOne}
+use Rattle.rules.proofs.CancelLaws.{IsSale, to-cancel-is-sale, second-length, controlled-length}
 use Rattle.rules.proofs.CallLaws.{entries-count, done-words, done-stays, control-passes, control-cause}
 
 -- a record as a control may leave it: as it was, or cancelled where it was such a sale
@@ -34,7 +35,7 @@ abbrev pub Cancels : ℕ → Record → Record → Type 0
 Cancels d r s = (s ≡ r) ⊎ (IsSale d r × (s ≡ withStatus cancelled r))
 
 module _ (who : Parties) (d : ℕ) where
-  one-cancels : (r : Record) → Cancels d r (cancelOne who d r)
+  one-cancels : (r : Record) → Cancels d r (changeOne (isToCancel who d) cancelled r)
   one-cancels r =
       elim (bool-cases (isToCancel who d r)) [
         | inl e ↦ rw e (inr (to-cancel-is-sale who d r e, refl))
@@ -42,7 +43,7 @@ module _ (who : Parties) (d : ℕ) where
       ]
 
   -- what is cancelled in a pass is counted
-  one-counted : (r : Record) → cond (isCancelled (cancelOne who d r)) 1 0 ≡ cond (isCancelled r) 1 0 + cond (isToCancel who d r) 1 0
+  one-counted : (r : Record) → cond (isCancelled (changeOne (isToCancel who d) cancelled r)) 1 0 ≡ cond (isCancelled r) 1 0 + cond (isToCancel who d r) 1 0
   one-counted r =
       elim (bool-cases (isToCancel who d r)) [
         | inl e ↦ rw (e, to-cancel-is-sale who d r e .stands)
@@ -50,7 +51,7 @@ module _ (who : Parties) (d : ℕ) where
       ]
 
   pub cancel-counted : (rs : List Record) → count isCancelled (cancelOf who d rs) ≡ count isCancelled rs + count (isToCancel who d) rs
-  unfolding count total cancelOf
+  unfolding count total cancelOf statusWhere
   cancel-counted [] = refl
   cancel-counted (r ∷ rs) = omega (arith, one-counted r, cancel-counted rs)
 
@@ -73,12 +74,12 @@ bought-elsewhere p e r h =
 
 -- a sum over the records of a pass, where the pass changes nothing that is added
 module _ (who : Parties) (d : ℕ) (f : Record → ℕ) (h : (r : Record) → isToCancel who d r ≡ true → f (withStatus cancelled r) ≡ f r) where
-  one-same : (r : Record) → f (cancelOne who d r) ≡ f r
+  one-same : (r : Record) → f (changeOne (isToCancel who d) cancelled r) ≡ f r
   one-same r = elim (bool-cases (isToCancel who d r)) [ inl e ↦ rw e (h r e) | inr e ↦ rw e ]
 
   pub total-cancel : (rs : List Record) → total f (cancelOf who d rs) ≡ total f rs
-  unfolding cancelOf
-  total-cancel rs = total-map f (cancelOne who d) rs ∙ total-cong _ f one-same rs
+  unfolding cancelOf statusWhere
+  total-cancel rs = total-map f (changeOne (isToCancel who d) cancelled) rs ∙ total-cong _ f one-same rs
 
 -- the mark adds to no sum of another day, and no pass changes what adds to one
 module _ (R TM d : ℕ) (rs : List Record) (e : ℕ) (other : d ≡ e → ⊥) (f : Record → ℕ)
@@ -106,13 +107,13 @@ cancels-again d r s t (inr c) (inr k) = absurd (omega (arith, k .0 .stands, ap (
 module _ (R TM d : ℕ) (rs : List Record) where
   -- nothing changes but the status of such sales, and a mark comes last
   pub only-sales : Each (Cancels d) rs (afterSecond R TM d rs)
-  unfolding afterSecond afterFirst cancelOf
+  unfolding afterSecond afterFirst cancelOf statusWhere
   only-sales = twice (firstPass R TM d rs) (secondPass R TM d rs) rs
     where
       twice : (who then : Parties) (ss : List Record) → Each (Cancels d) ss (cancelOf then d (cancelOf who d ss))
       twice who then [] = tt
       twice who then (r ∷ ss) =
-          (cancels-again d r (cancelOne who d r) (cancelOne then d (cancelOne who d r)) (one-cancels who d r) (one-cancels then d (cancelOne who d r)), twice who then ss)
+          (cancels-again d r (changeOne (isToCancel who d) cancelled r) (changeOne (isToCancel then d) cancelled (changeOne (isToCancel who d) cancelled r)) (one-cancels who d r) (one-cancels then d (changeOne (isToCancel who d) cancelled r)), twice who then ss)
 
   -- the entries cancelled are counted exactly
   pub counted-exactly : count isCancelled (controlledRecords R TM d rs) ≡ count isCancelled rs + cancelledEntries R TM d rs

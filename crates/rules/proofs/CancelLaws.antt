@@ -15,16 +15,13 @@ use Rattle.rules.specs.Entry.{Record, key, recordOf, withStatus, legal, 
 use Rattle.rules.specs.Control.{Parties, isToCancel, cancelOf, firstPass, secondPass, afterFirst, afterSecond, markOf, controlledRecords}
 use Rattle.rules.specs.DayFile.{Item, line, emptyBlock, itemCause, linesOf}
 use Rattle.rules.proofs.BookLaws.{cancel-legal, mark-legal, new-legal, length-snoc}
+use Rattle.rules.proofs.StatusLaws.{Changes, where-length, where-legals}
 
 -- the day's standing bilateral sales, counterparty above 0
 pub record IsSale (d : ℕ) (r : Record) : Type 0 where
   pub stands : r .label .status ≡ 0
   pub day : key r .day ≡ d
   pub bilateral : isBilateral (key r) ≡ true
-
--- what one entry becomes in a pass
-abbrev pub cancelOne : Parties → ℕ → Record → Record
-cancelOne who d r = cond (isToCancel who d r) (withStatus cancelled r) r
 
 module _ (who : Parties) (d : ℕ) where
   pub to-cancel-is-sale : (r : Record) → isToCancel who d r ≡ true → IsSale d r
@@ -33,24 +30,21 @@ module _ (who : Parties) (d : ℕ) where
       let h = every-holds (isStanding r ∷ eqb (key r .day) d ∷ isBilateral (key r) ∷ who (key r .party) ∷ []) e in
       record { stands = eqb-true _ _ (h .0); day = eqb-true _ _ (h .1 .0); bilateral = h .1 .1 .0 }
 
+  -- cancelling is a change of status
+  pub cancels : Changes (isToCancel who d) cancelled
+  cancels =
+      record {
+        stands = λ r e. to-cancel-is-sale r e .stands;
+        keeps = λ r l e. cancel-legal r l (to-cancel-is-sale r e .bilateral);
+      }
+
   pub cancel-length : (rs : List Record) → length (cancelOf who d rs) ≡ length rs
   unfolding cancelOf
-  cancel-length [] = refl
-  cancel-length (r ∷ rs) = ap suc (cancel-length rs)
-
-  pub one-legal : (r : Record) → legal r ≡ true → legal (cancelOne who d r) ≡ true
-  one-legal r l =
-      elim (bool-cases (isToCancel who d r)) [
-        | inl e ↦ rw e (cancel-legal r l (to-cancel-is-sale r e .bilateral))
-        | inr e ↦ rw e l
-      ]
+  cancel-length rs = where-length (isToCancel who d) cancelled rs
 
   pub cancel-legals : (rs : List Record) → all legal rs ≡ true → all legal (cancelOf who d rs) ≡ true
-  unfolding cancelOf all
-  cancel-legals [] e = refl
-  cancel-legals (r ∷ rs) e =
-      let s = and-split (legal r) (all legal rs) e in
-      and-join _ _ (one-legal r (s .0)) (cancel-legals rs (s .1))
+  unfolding cancelOf
+  cancel-legals rs e = where-legals (isToCancel who d) cancelled cancels rs e
 
 module _ (R TM d : ℕ) (rs : List Record) where
   pub second-length : length (afterSecond R TM d rs) ≡ length rs

@@ -2,6 +2,7 @@
 pub mod WordLaws
 pub mod BookLaws
 pub mod LiftLaws
+pub mod StatusLaws
 pub mod CancelLaws
 pub mod ChangeLaws
 pub mod CallLaws

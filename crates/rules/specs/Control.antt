@@ -1,6 +1,6 @@
 -- Control of a day (01, 'Control of a day').
 use mathlib.Core.Bool.{Bool, not, cond, _&&_}
-use mathlib.Core.List.{List, [], _∷_, _++_, map}
+use mathlib.Core.List.{List, [], _∷_, _++_}
 use Prim.Native.Nat.{ℕ, _+_}
 use lib.Dec.{eqb, leb, ltb}
 use lib.ListN.{length}
@@ -9,7 +9,7 @@ use Rattle.numbers.specs.Tests.{every, any}
 use Rattle.numbers.specs.Causes.{unless, firstOf}
 use Rattle.calendar.specs.Calendar.{monthOf}
 use Rattle.rules.specs.Refusals.{badDay, dayClosed, noRoom}
-use Rattle.rules.specs.Entry.{Record, keyOf, recordOf, key, withStatus, isStanding, isCancelled, isBilateral, standing, cancelled, partyOk, dayOk, lastParty, markType}
+use Rattle.rules.specs.Entry.{Record, keyOf, recordOf, key, statusWhere, isStanding, isCancelled, isBilateral, standing, cancelled, partyOk, dayOk, lastParty, markType}
 use Rattle.rules.specs.Words.{Frame}
 use Rattle.rules.specs.Book.{isClosed}
 use Rattle.rules.specs.Balance.{dayAhead, balance, isDetected}
@@ -28,7 +28,7 @@ isToCancel who d r =
     every (isStanding r ∷ eqb (key r .day) d ∷ isBilateral (key r) ∷ who (key r .party) ∷ [])
 
 unfoldable pub cancelOf : Parties → ℕ → List Record → List Record
-cancelOf who d rs = map (λ r. cond (isToCancel who d r) (withStatus cancelled r) r) rs
+cancelOf who d rs = statusWhere (isToCancel who d) cancelled rs
 
 -- a cancelled entry of this pair on another day of the same month
 abbrev pub isEarlierOrLater : ℕ → Record → Record → Bool

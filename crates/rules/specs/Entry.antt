@@ -1,6 +1,6 @@
 -- An entry, and what a legal one is (01, 'Entry types').
 use mathlib.Core.Bool.{Bool, not, cond, _&&_, _||_}
-use mathlib.Core.List.{[], _∷_}
+use mathlib.Core.List.{List, [], _∷_, map}
 use Prim.Native.Nat.{ℕ}
 use lib.Dec.{eqb, leb, ltb}
 use Rattle.numbers.specs.Tests.{every}
@@ -93,6 +93,10 @@ noRecord = recordOf (keyOf 0 0 0 0) withdrawn 0
 -- a record with another status
 abbrev pub withStatus : ℕ → Record → Record
 withStatus s r = recordOf (key r) s (r .amount)
+
+-- another status on those of the records for which a test holds
+unfoldable pub statusWhere : (Record → Bool) → ℕ → List Record → List Record
+statusWhere test s rs = map (λ r. cond (test r) (withStatus s r) r) rs
 
 -- checks 3 to 7 of a post
 abbrev pub partyOk : ℕ → Bool
