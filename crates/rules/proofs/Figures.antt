@@ -1,14 +1,13 @@
--- The starred lines of 01 ('Figures to hold it to') as one list, proved by one computed test, and a second list of what those let pass.
+-- The starred lines of 01 ('Figures to hold it to') as one list, proved by one computed test, and two further lists of what those let pass.
 use mathlib.Core.Bool.{Bool, true, false, not}
 use mathlib.Core.List.{List, [], _∷_}
 use mathlib.Core.Path.{_≡_, refl}
 use lib.Dec.{eqb}
 use lib.IntN.{pos}
-use lib.ListN.{set, take}
+use lib.ListN.{take}
 use Rattle.numbers.specs.Tests.{every}
 use Rattle.calendar.specs.Calendar.{dateOf}
 use Rattle.rules.specs.Entry.{keyOf}
-use Rattle.rules.specs.Words.{isBook}
 use Rattle.rules.specs.Balance.{dayAhead, delivery, balanceAnswer}
 use Rattle.rules.specs.Month.{monthAnswer}
 use Rattle.rules.specs.Collateral.{noMonth, collateralAnswer}
@@ -64,10 +63,8 @@ further =
     -- tolerance against cover: 600,000 × 1.10, one kWh above it; other parties, days and money count nowhere
     ∷ bothAre (own 12 600000 ∷ own 1 660001 ∷ []) (pos 100) true
     ∷ bothAre (own 12 600000 ∷ own 1 660000 ∷ on 8999 1 9 ∷ post (keyOf 2 9000 1 0) 9 ∷ own 17 9 ∷ []) (pos 0) false
-    -- a withdrawn and a cancelled entry; the buyer's purchase goes with it
+    -- a withdrawn entry
     ∷ bothAre (own 1 700000 ∷ withdraw 0 ∷ []) (minus 60000000) false
-    ∷ isSigned (balanceAnswer dayAhead oneDay 1 9000 .balance) (minus 60000000)
-    ∷ isSigned (balanceAnswer dayAhead oneDay 2 9000 .balance) (pos 17000000)
     -- k above 3 with and without a holiday; k of 3 before a holiday; a day whose money nets to 0 is chosen; both markets
     ∷ tradingIs nets (withNonbusiness case 3) 6000
     ∷ tradingIs nets (withHoliday (withNonbusiness case 3) 1) 4500
@@ -103,8 +100,18 @@ further =
     ∷ fileBalanceIs sample 2 (minus 77000000)
     ∷ fileNames sample 2 9000
     ∷ fileIs (take 28 sample) 2 0
+    ∷ isDate (dateOf 36524) 2099 12 31
+    ∷ isDate (dateOf 9000) 2024 8 22
+    ∷ []
+
+pub further-hold : every further ≡ true
+unfolding computed further
+further-hold = refl
+
+pub furtherControls : List Bool
+furtherControls =
     -- control: a buyer's lost purchase is not counted inside the first pass; a repeated pair, and what a control of it counts; another month
-    ∷ statusIs oneDay 0 2
+    statusIs oneDay 0 2
     ∷ statusIs oneDay 1 0
     ∷ controlIs august 9000 1 1 2
     ∷ statusIs (controlWords august 9000) 3 2
@@ -115,27 +122,11 @@ further =
     ∷ eqb (withdrawCause oneDay 1) 8
     ∷ eqb (withdrawCause oneDay 0) 10
     ∷ eqb (controlCause oneDay 9000) 8
-    -- what is no book: a word of another kind, a count past the slice, R and TM out of range, a bit set that has no name
-    ∷ isBook oneDay
-    ∷ not (isBook (set oneDay 4 0x30002328))
-    ∷ not (isBook (set oneDay 0 0x6000000B))
-    ∷ not (isBook (set oneDay 1 0x700003E9))
-    ∷ not (isBook (set oneDay 2 0x8BEBC201))
-    ∷ not (isBook (set oneDay 3 0x10010001))
-    ∷ not (isBook (set oneDay 7 0x50001000))
-    -- status 3, status 2 of an export, a withdrawn mark, a mark with an amount, a sale to itself, an amount above 10^9
-    ∷ not (isBook (set oneDay 5 0x33000206))
-    ∷ not (isBook (set oneDay 5 0x32000006))
-    ∷ not (isBook (set oneDay 15 0x31000015))
-    ∷ not (isBook (set oneDay 16 0x40000001))
-    ∷ not (isBook (set oneDay 5 0x32000106))
-    ∷ not (isBook (set oneDay 7 0x50000004))
-    -- words after the last entry are never read
-    ∷ isBook (set oneDay 18 0xFFFFFFFF)
-    ∷ isDate (dateOf 36524) 2099 12 31
-    ∷ isDate (dateOf 9000) 2024 8 22
+    -- a cancelled sale counts nowhere, and the buyer's purchase goes with it
+    ∷ isSigned (balanceAnswer dayAhead oneDay 1 9000 .balance) (minus 60000000)
+    ∷ isSigned (balanceAnswer dayAhead oneDay 2 9000 .balance) (pos 17000000)
     ∷ []
 
-pub further-hold : every further ≡ true
-unfolding computed further
-further-hold = refl
+pub furtherControls-hold : every furtherControls ≡ true
+unfolding computed furtherControls
+furtherControls-hold = refl

@@ -32,7 +32,7 @@ pub record Faultless (k : Key) (a : ℕ) : Type 0 where
   pub type-above : 1 ≤ k .type
   pub type : k .type ≤ 20
   pub counterparty : k .counterparty ≤ 999
-  pub amount : a ≤ 1000000000000
+  pub amount : a ≤ mostMoney
 
 pub within-true : (low high x : ℕ) → within low high x ≡ true → (low ≤ x) × (x ≤ high)
 within-true low high x e =
@@ -51,11 +51,11 @@ counterparty-range k e = go (eqb (k .type) 6) e
     go true e = leb-true _ _ (and-split (leb (k .counterparty) 999) _ e .0)
     go false e = omega (arith, eqb-true (k .counterparty) 0 e)
 
-pub amount-range : (t : ℕ) → amountLimit t ≤ 1000000000000
+pub amount-range : (t : ℕ) → amountLimit t ≤ mostMoney
 unfolding amountLimit
 amount-range t = go (isMoney t)
   where
-    go : (b : Bool) → cond b mostMoney mostVolume ≤ 1000000000000
+    go : (b : Bool) → cond b mostMoney mostVolume ≤ mostMoney
     go true = omega arith
     go false = omega arith
 
@@ -77,7 +77,7 @@ pub record Bounds (r : Record) : Type 0 where
   pub type : key r .type ≤ 21
   pub counterparty : key r .counterparty ≤ 999
   pub status : r .label .status ≤ 2
-  pub amount : r .amount ≤ 1000000000000
+  pub amount : r .amount ≤ mostMoney
 
 pub status-range : (l : Label) → statusOk l ≡ true → l .status ≤ 2
 unfolding statusOk
@@ -194,7 +194,7 @@ unnamed-bits ws e =
     let f = figures (valueAt ws 0) (valueAt ws 2) (valueAt ws 3) (valueAt ws 4) (b .party) (b .status) (b .amount) in
     record { party = f .0; figures = f .1; amount = f .2 }
   where
-    figures : (p v x y : ℕ) → p ≤ 999 → v / 16777216 ≤ 2 → x + y * 268435456 ≤ 1000000000000 → (p < 65536) × (v < 67108864) × (y < 4096)
+    figures : (p v x y : ℕ) → p ≤ 999 → v / 16777216 ≤ 2 → x + y * 268435456 ≤ mostMoney → (p < 65536) × (v < 67108864) × (y < 4096)
     figures p v x y hp hv hy = omega arith
 
 -- lists of entries
