@@ -1,25 +1,48 @@
 -- `file_names::day_at` meets its contract. Assumes nothing.
+use mathlib.Core.Path.{_≡_}
 use mathlib.Core.Bool.{false, or-false, and-true, and-false}
+use Prim.Native.Nat.{ℕ}
 use lib.Dec.{eqb}
 use lib.ListN.{getD}
 use borrow.Author.Tests.{eq-eqb, ne-eqb}
+use Rattle.numbers.specs.Tests.{any}
 use Rattle.rules.specs.DayFile.{emptyBlock, itemNames}
 use Rattle.words.proofs.Ladder.{passed, failed}
-use Rattle.file_walk.specs.Walk.{lineItem}
+use Rattle.file_walk.specs.Walk.{itemsAt, lineItem}
 use Rattle.file_walk.proofs.WalkLaws.{head-whole, line-whole, block-held, nothing-held, line-held}
 use Rattle.file_names.proofs.NameLaws.{marked, of-none, of-one}
 use borrow.Author.Needs.{needs}
 use Rattle.file_names.proofs.day_at.Statement.{statement}
 use Rattle.file_names.proofs.day_at.Tie as tie
 
+-- the start, and what the empty block or the line read holds
+abbrev start : tie.After-struct-known → tie.Start
+start k = k .before .before .before
+
+block-names : (j : tie.Else2) (d : ℕ) →
+    let r = j .before .before .head-at .result in
+    let a = start (j .before .before .before .before) .args in
+    any (itemNames (a .party) d) (itemsAt (a .file .now) (a .c)) ≡ itemNames (a .party) d (emptyBlock (r .party) (r .day))
+block-names j d =
+    let h = j .before .before in
+    let a = start (h .before .before) .args in
+    of-one (itemNames (a .party) d) _ (block-held (a .file .now) (a .c) (h .before .if1 .taken) (h .head-at .result) (h .head-at .ensures) (j .if2 .left))
+
+line-names : (t : tie.After-line-at) (d : ℕ) →
+    let a = start (t .before .before) .args in
+    any (itemNames (a .party) d) (itemsAt (a .file .now) (a .c)) ≡ itemNames (a .party) d (lineItem (a .c) (t .line-at .result))
+line-names t d =
+    let a = start (t .before .before) .args in
+    of-one (itemNames (a .party) d) _ (line-held (a .file .now) (a .c) (t .before .if1 .left) (t .line-at .result) (t .line-at .ensures))
+
 head-at-requires : tie.Need-head-at-requires
-head-at-requires c κs = head-whole _ _ (c .before .before .before .before .pre) (c .if1 .taken)
+head-at-requires c κs = head-whole _ _ (start (c .before) .pre) (c .if1 .taken)
 
 returns : tie.Need-returns
 returns c =
     let h = c .before .before in
     let i = h .before in
-    let a = i .before .before .before .before .args in
+    let a = start (i .before) .args in
     λ d _. of-none (itemNames (a .party) d) (nothing-held (a .file .now) (a .c) (i .if1 .taken) (h .head-at .result) (h .head-at .ensures) (c .if2 .taken)) (getD (a .days .now) d false)
 
 returns-2 : tie.Need-returns-2
@@ -27,10 +50,8 @@ unfolding itemNames
 returns-2 c =
     let j = c .before .before in
     let h = j .before .before in
-    let i = h .before in
-    let a = i .before .before .before .before .args in
-    let r = h .head-at .result in
-    λ d _. rw (of-one (itemNames (a .party) d) (emptyBlock (r .party) (r .day)) (block-held (a .file .now) (a .c) (i .if1 .taken) r (h .head-at .ensures) (j .if2 .left)), ne-eqb (r .party) (a .party) (c .if3 .taken), or-false (getD (a .days .now) d false))
+    let a = start (h .before .before) .args in
+    λ d _. rw (block-names j d, ne-eqb (h .head-at .result .party) (a .party) (c .if3 .taken), or-false (getD (a .days .now) d false))
 
 mark-requires : tie.Need-mark-requires
 mark-requires c κs = search needs
@@ -45,13 +66,12 @@ returns-3 c =
     let k = m .before .before in
     let j = k .before .before in
     let h = j .before .before in
-    let i = h .before in
-    let a = i .before .before .before .before .args in
+    let a = start (h .before .before) .args in
     let r = h .head-at .result in
-    λ d l. rw (m .mark .ensures, of-one (itemNames (a .party) d) (emptyBlock (r .party) (r .day)) (block-held (a .file .now) (a .c) (i .if1 .taken) r (h .head-at .ensures) (j .if2 .left)), eq-eqb (r .party) (a .party) (k .if3 .left)) (marked (a .days .now) (r .day) d l)
+    λ d l. rw (m .mark .ensures, block-names j d, eq-eqb (r .party) (a .party) (k .if3 .left)) (marked (a .days .now) (r .day) d l)
 
 line-at-requires : tie.Need-line-at-requires
-line-at-requires c κs = line-whole _ _ (c .before .before .before .before .pre) (c .if1 .left)
+line-at-requires c κs = line-whole _ _ (start (c .before) .pre) (c .if1 .left)
 
 is-named-requires : tie.Need-is-named-requires
 is-named-requires c κs = search needs
@@ -61,9 +81,8 @@ unfolding itemNames
 returns-4 c =
     let n = c .before in
     let t = n .before in
-    let i = t .before in
-    let a = i .before .before .before .before .args in
-    λ d _. rw (of-one (itemNames (a .party) d) (lineItem (a .c) (t .line-at .result)) (line-held (a .file .now) (a .c) (i .if1 .left) (t .line-at .result) (t .line-at .ensures)), failed (n .is-named .ensures) (c .if4 .taken), and-false (eqb (a .c .day) d), or-false (getD (a .days .now) d false))
+    let a = start (t .before .before) .args in
+    λ d _. rw (line-names t d, failed (n .is-named .ensures) (c .if4 .taken), and-false (eqb (a .c .day) d), or-false (getD (a .days .now) d false))
 
 mark-requires-2 : tie.Need-mark-requires-2
 mark-requires-2 c κs = search needs
@@ -78,9 +97,8 @@ returns-5 c =
     let e = m .before .before in
     let n = e .before in
     let t = n .before in
-    let i = t .before in
-    let a = i .before .before .before .before .args in
-    λ d l. rw (m .mark2 .ensures, of-one (itemNames (a .party) d) (lineItem (a .c) (t .line-at .result)) (line-held (a .file .now) (a .c) (i .if1 .left) (t .line-at .result) (t .line-at .ensures)), passed (n .is-named .ensures) (e .if4 .left), and-true (eqb (a .c .day) d)) (marked (a .days .now) (a .c .day) d l)
+    let a = start (t .before .before) .args in
+    λ d l. rw (m .mark2 .ensures, line-names t d, passed (n .is-named .ensures) (e .if4 .left), and-true (eqb (a .c .day) d)) (marked (a .days .now) (a .c .day) d l)
 
 pub day-at-spec : {M : Type 1} → statement M
 day-at-spec =

@@ -15,6 +15,13 @@ Inv-loop file party days₀ c₀ days c = Marks (itemNames party) file days₀ d
 abbrev μ-loop : tie.MeasureT-loop
 μ-loop file party days₀ c₀ days c = length file - c .at
 
+-- the start, and the mark of a turn
+abbrev start : tie.At-loop Inv-loop μ-loop → tie.Start Inv-loop μ-loop
+start l = l .before .before .before .before
+
+abbrev mark : tie.After-slice-known2 Inv-loop μ-loop → tie.After-day-at Inv-loop μ-loop
+mark k = k .before .before
+
 begin-requires : tie.Need-begin-requires Inv-loop μ-loop
 begin-requires c κs = search needs
 
@@ -29,20 +36,18 @@ day-at-requires : tie.Need-day-at-requires Inv-loop μ-loop
 day-at-requires c κs = sym (c .before .before .more .ensures) ∙ c .before .if1 .taken
 
 advance-requires : tie.Need-advance-requires Inv-loop μ-loop
-advance-requires c κs = sym (c .before .before .before .before .before .more .ensures) ∙ c .before .before .before .before .if1 .taken
+advance-requires c κs = day-at-requires (mark c .before) (mark c .day-at .lifetimes)
 
 loop-less : tie.Need-loop-less Inv-loop μ-loop
-loop-less c =
-    let t = c .before .before .before .before .before in
-    walk-less _ (t .before .before .loop .c) (t .before .more .ensures) (t .if1 .taken) (c .advance .ensures)
+loop-less c = let t = mark (c .before) .before .before in walk-less _ (t .before .before .loop .c) (t .before .more .ensures) (t .if1 .taken) (c .advance .ensures)
 
 loop-again : tie.Need-loop-again Inv-loop μ-loop
 loop-again c =
-    let k = c .before .before .before in
-    let t = k .before .before in
+    let m = mark (c .before) in
+    let t = m .before .before in
     let l = t .before .before in
-    let a = l .before .before .before .before .args in
-    marks-step (itemNames (a .party)) (a .file .now) (a .days .now) (l .loop .days) (l .loop .c) (l .loop .inv) (t .before .more .ensures) (t .if1 .taken) (c .advance .ensures) (k .day-at .kept .1 .1 .1 .0) (k .day-at .ensures)
+    let a = start l .args in
+    marks-step (itemNames (a .party)) (a .file .now) (a .days .now) (l .loop .days) (l .loop .c) (l .loop .inv) (t .before .more .ensures) (t .if1 .taken) (c .advance .ensures) (m .day-at .kept .1 .1 .1 .0) (m .day-at .ensures)
 
 same-length : tie.Need-same-length Inv-loop μ-loop
 same-length c = c .before .before .loop .inv .long
@@ -51,7 +56,7 @@ returns : tie.Need-returns Inv-loop μ-loop
 unfolding fileNames
 returns c =
     let l = c .before .before in
-    let a = l .before .before .before .before .args in
+    let a = start l .args in
     marks-end (itemNames (a .party)) (a .file .now) (a .days .now) (l .loop .days) (l .loop .c) (l .loop .inv) (c .before .more .ensures) (c .if1 .left)
 
 pub mark-days-spec : {M : Type 1} → statement M

@@ -16,6 +16,13 @@ Inv-loop file parties₀ c₀ parties c = Marks itemHas file parties₀ parties 
 abbrev μ-loop : tie.MeasureT-loop
 μ-loop file parties₀ c₀ parties c = length file - c .at
 
+-- the start, and the mark of a turn
+abbrev start : tie.At-loop Inv-loop μ-loop → tie.Start Inv-loop μ-loop
+start l = l .before .before .before .before
+
+abbrev mark : tie.After-slice-known2 Inv-loop μ-loop → tie.After-party-at Inv-loop μ-loop
+mark k = k .before .before
+
 begin-requires : tie.Need-begin-requires Inv-loop μ-loop
 begin-requires c κs = search needs
 
@@ -30,20 +37,18 @@ party-at-requires : tie.Need-party-at-requires Inv-loop μ-loop
 party-at-requires c κs = sym (c .before .before .more .ensures) ∙ c .before .if1 .taken
 
 advance-requires : tie.Need-advance-requires Inv-loop μ-loop
-advance-requires c κs = sym (c .before .before .before .before .before .more .ensures) ∙ c .before .before .before .before .if1 .taken
+advance-requires c κs = party-at-requires (mark c .before) (mark c .party-at .lifetimes)
 
 loop-less : tie.Need-loop-less Inv-loop μ-loop
-loop-less c =
-    let t = c .before .before .before .before .before in
-    walk-less _ (t .before .before .loop .c) (t .before .more .ensures) (t .if1 .taken) (c .advance .ensures)
+loop-less c = let t = mark (c .before) .before .before in walk-less _ (t .before .before .loop .c) (t .before .more .ensures) (t .if1 .taken) (c .advance .ensures)
 
 loop-again : tie.Need-loop-again Inv-loop μ-loop
 loop-again c =
-    let k = c .before .before .before in
-    let t = k .before .before in
+    let m = mark (c .before) in
+    let t = m .before .before in
     let l = t .before .before in
-    let a = l .before .before .before .before .args in
-    marks-step itemHas (a .file .now) (a .parties .now) (l .loop .parties) (l .loop .c) (l .loop .inv) (t .before .more .ensures) (t .if1 .taken) (c .advance .ensures) (k .party-at .kept .1 .1 .0) (k .party-at .ensures)
+    let a = start l .args in
+    marks-step itemHas (a .file .now) (a .parties .now) (l .loop .parties) (l .loop .c) (l .loop .inv) (t .before .more .ensures) (t .if1 .taken) (c .advance .ensures) (m .party-at .kept .1 .1 .0) (m .party-at .ensures)
 
 same-length : tie.Need-same-length Inv-loop μ-loop
 same-length c = c .before .before .loop .inv .long
@@ -52,7 +57,7 @@ returns : tie.Need-returns Inv-loop μ-loop
 unfolding namesParty
 returns c =
     let l = c .before .before in
-    let a = l .before .before .before .before .args in
+    let a = start l .args in
     marks-end itemHas (a .file .now) (a .parties .now) (l .loop .parties) (l .loop .c) (l .loop .inv) (c .before .more .ensures) (c .if1 .left)
 
 pub mark-parties-spec : {M : Type 1} → statement M

@@ -1,24 +1,40 @@
 -- `file_names::party_at` meets its contract. Assumes nothing.
+use mathlib.Core.Path.{_≡_, _∙_, ap}
 use mathlib.Core.Bool.{false, or-false}
+use Prim.Native.Nat.{ℕ}
 use lib.Dec.{eqb}
 use lib.ListN.{getD}
+use Rattle.numbers.specs.Tests.{any}
 use Rattle.rules.specs.DayFile.{emptyBlock}
-use Rattle.file_walk.specs.Walk.{lineItem}
-use Rattle.file_names.specs.Names.{itemHas}
+use Rattle.file_walk.specs.Walk.{itemsAt, lineItem}
+use Rattle.file_names.specs.Names.{itemHas, isNamed}
 use Rattle.file_walk.proofs.WalkLaws.{head-whole, line-whole, block-held, nothing-held, line-held}
 use Rattle.file_names.proofs.NameLaws.{marked, both-marked, of-none, of-one}
 use borrow.Author.Needs.{needs}
 use Rattle.file_names.proofs.party_at.Statement.{statement}
 use Rattle.file_names.proofs.party_at.Tie as tie
 
+-- the start; where a line was read, the mark of its own party; what the line holds
+abbrev start : tie.After-struct-known → tie.Start
+start k = k .before .before .before
+
+abbrev own : tie.After-struct-known3 → tie.After-mark2
+own k = k .before .before .before
+
+line-has : (t : tie.After-line-at) (p : ℕ) → let a = start (t .before .before) .args in any (itemHas p) (itemsAt (a .file .now) (a .c)) ≡ isNamed (a .c .party) (t .line-at .result .counterparty) p
+unfolding itemHas
+line-has t p =
+    let a = start (t .before .before) .args in
+    of-one (itemHas p) (lineItem (a .c) (t .line-at .result)) (line-held (a .file .now) (a .c) (t .before .if1 .left) (t .line-at .result) (t .line-at .ensures))
+
 head-at-requires : tie.Need-head-at-requires
-head-at-requires c κs = head-whole _ _ (c .before .before .before .before .pre) (c .if1 .taken)
+head-at-requires c κs = head-whole _ _ (start (c .before) .pre) (c .if1 .taken)
 
 returns : tie.Need-returns
 returns c =
     let h = c .before .before in
     let i = h .before in
-    let a = i .before .before .before .before .args in
+    let a = start (i .before) .args in
     λ p _. of-none (itemHas p) (nothing-held (a .file .now) (a .c) (i .if1 .taken) (h .head-at .result) (h .head-at .ensures) (c .if2 .taken)) (getD (a .parties .now) p false)
 
 mark-requires : tie.Need-mark-requires
@@ -34,12 +50,12 @@ returns-2 c =
     let j = m .before .before in
     let h = j .before .before in
     let i = h .before in
-    let a = i .before .before .before .before .args in
+    let a = start (i .before) .args in
     let r = h .head-at .result in
     λ p l. rw (m .mark .ensures, of-one (itemHas p) (emptyBlock (r .party) (r .day)) (block-held (a .file .now) (a .c) (i .if1 .taken) r (h .head-at .ensures) (j .if2 .left))) (marked (a .parties .now) (r .party) p l)
 
 line-at-requires : tie.Need-line-at-requires
-line-at-requires c κs = line-whole _ _ (c .before .before .before .before .pre) (c .if1 .left)
+line-at-requires c κs = line-whole _ _ (start (c .before) .pre) (c .if1 .left)
 
 mark-requires-2 : tie.Need-mark-requires-2
 mark-requires-2 c κs = search needs
@@ -48,13 +64,11 @@ same-length-2 : tie.Need-same-length-2
 same-length-2 c = search needs
 
 returns-3 : tie.Need-returns-3
-unfolding itemHas
 returns-3 c =
-    let m = c .before .before .before .before in
+    let m = own (c .before) in
     let t = m .before .before in
-    let i = t .before in
-    let a = i .before .before .before .before .args in
-    λ p l. rw (m .mark2 .ensures, of-one (itemHas p) (lineItem (a .c) (t .line-at .result)) (line-held (a .file .now) (a .c) (i .if1 .left) (t .line-at .result) (t .line-at .ensures)), c .if3 .taken, or-false (eqb (a .c .party) p)) (marked (a .parties .now) (a .c .party) p l)
+    let a = start (t .before .before) .args in
+    λ p l. rw (m .mark2 .ensures, line-has t p ∙ ap (λ q. isNamed (a .c .party) q p) (c .if3 .taken), or-false (eqb (a .c .party) p)) (marked (a .parties .now) (a .c .party) p l)
 
 mark-requires-3 : tie.Need-mark-requires-3
 mark-requires-3 c κs = search needs
@@ -63,15 +77,13 @@ same-length-3 : tie.Need-same-length-3
 same-length-3 c = search needs
 
 returns-4 : tie.Need-returns-4
-unfolding itemHas
 returns-4 c =
     let n = c .before .before in
     let k = n .before .before in
-    let m = k .before .before .before .before in
+    let m = own (k .before) in
     let t = m .before .before in
-    let i = t .before in
-    let a = i .before .before .before .before .args in
-    λ p l. rw (n .mark3 .ensures, m .mark2 .ensures, of-one (itemHas p) (lineItem (a .c) (t .line-at .result)) (line-held (a .file .now) (a .c) (i .if1 .left) (t .line-at .result) (t .line-at .ensures))) (both-marked (a .parties .now) (a .c .party) (t .line-at .result .counterparty) p (k .if3 .left) l)
+    let a = start (t .before .before) .args in
+    λ p l. rw (n .mark3 .ensures, m .mark2 .ensures, line-has t p) (both-marked (a .parties .now) (a .c .party) (t .line-at .result .counterparty) p (k .if3 .left) l)
 
 pub party-at-spec : {M : Type 1} → statement M
 party-at-spec =
