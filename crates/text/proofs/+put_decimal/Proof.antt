@@ -27,115 +27,54 @@ abbrev put-decimal-below : ℕ → In 1 put-decimal-kinds.ps
 put-decimal-below t =
     and 1 put-decimal-kinds.ps (falls 1 put-decimal-kinds.ps _<_ μ-put-decimal t) put-decimal.Pre
 
-put-decimal-digit-requires : (t : ℕ) → put-decimal-lts.Need-digit-requires (
-  digit-reads.Asked,
-  digit-reads.Learnt,
-  put-reads.Asked,
-  put-reads.Learnt,
-  put-decimal-below t,
-  put-decimal.Post,
-) (put-decimal-at t) put-decimal.Post
-put-decimal-digit-requires t c κs = search needs
+-- what the calls ask and give, and the function itself of a smaller number
+abbrev claims : ℕ → put-decimal-lts.Claims
+claims t = (digit-reads.Asked, digit-reads.Learnt, put-reads.Asked, put-reads.Learnt, put-decimal-below t, put-decimal.Post)
 
-put-decimal-put-requires : (t : ℕ) → put-decimal-lts.Need-put-requires (
-  digit-reads.Asked,
-  digit-reads.Learnt,
-  put-reads.Asked,
-  put-reads.Learnt,
-  put-decimal-below t,
-  put-decimal.Post,
-) (put-decimal-at t) put-decimal.Post
-put-decimal-put-requires t c κs = c .before .before .before .before .pre .1
+module _ (t : ℕ) where
+  -- the test that one digit is left, and the call for the digits before the last
+  abbrev taken : put-decimal-lts.After-digit (claims t) (put-decimal-at t) put-decimal.Post → put-decimal-lts.Then1 (claims t) (put-decimal-at t) put-decimal.Post
+  taken d = d .before .before
 
-put-decimal-same-length : (t : ℕ) → put-decimal-lts.Need-same-length (
-  digit-reads.Asked,
-  digit-reads.Learnt,
-  put-reads.Asked,
-  put-reads.Learnt,
-  put-decimal-below t,
-  put-decimal.Post,
-) (put-decimal-at t) put-decimal.Post
-put-decimal-same-length t c = search needs
+  abbrev rest : put-decimal-lts.After-digit2 (claims t) (put-decimal-at t) put-decimal.Post → put-decimal-lts.After-put-decimal (claims t) (put-decimal-at t) put-decimal.Post
+  rest d = d .before .before .before .before
 
-put-decimal-returns : (t : ℕ) → put-decimal-lts.Need-returns (
-  digit-reads.Asked,
-  digit-reads.Learnt,
-  put-reads.Asked,
-  put-reads.Learnt,
-  put-decimal-below t,
-  put-decimal.Post,
-) (put-decimal-at t) put-decimal.Post
-put-decimal-returns t c =
-    let k = c .before .before in
-    let x = k .before .before .before .before .before .args .x in
-    rw (small-decimal x (k .before .before .before .if1 .taken), ← k .before .digit .ensures) (k .put .ensures)
+  put-decimal-digit-requires : put-decimal-lts.Need-digit-requires (claims t) (put-decimal-at t) put-decimal.Post
+  put-decimal-digit-requires c κs = search needs
 
-put-decimal-put-decimal-requires : (t : ℕ) → put-decimal-lts.Need-put-decimal-requires (
-  digit-reads.Asked,
-  digit-reads.Learnt,
-  put-reads.Asked,
-  put-reads.Learnt,
-  put-decimal-below t,
-  put-decimal.Post,
-) (put-decimal-at t) put-decimal.Post
-put-decimal-put-decimal-requires t c κs =
-    let s = c .before .before .before in
-    (rw (← s .pre .0) (omega arith), s .pre .1)
+  put-decimal-put-requires : put-decimal-lts.Need-put-requires (claims t) (put-decimal-at t) put-decimal.Post
+  put-decimal-put-requires c κs = taken c .before .before .pre .1
 
-put-decimal-digit-requires-2 : (t : ℕ) → put-decimal-lts.Need-digit-requires-2 (
-  digit-reads.Asked,
-  digit-reads.Learnt,
-  put-reads.Asked,
-  put-reads.Learnt,
-  put-decimal-below t,
-  put-decimal.Post,
-) (put-decimal-at t) put-decimal.Post
-put-decimal-digit-requires-2 t c κs = search needs
+  put-decimal-same-length : put-decimal-lts.Need-same-length (claims t) (put-decimal-at t) put-decimal.Post
+  put-decimal-same-length c = search needs
 
-put-decimal-put-requires-2 : (t : ℕ) → put-decimal-lts.Need-put-requires-2 (
-  digit-reads.Asked,
-  digit-reads.Learnt,
-  put-reads.Asked,
-  put-reads.Learnt,
-  put-decimal-below t,
-  put-decimal.Post,
-) (put-decimal-at t) put-decimal.Post
-put-decimal-put-requires-2 t c κs = wrote-within (c .before .before .before .before .put-decimal .ensures)
+  put-decimal-returns : put-decimal-lts.Need-returns (claims t) (put-decimal-at t) put-decimal.Post
+  put-decimal-returns c =
+      let k = c .before .before in
+      let i = taken (k .before) in
+      rw (small-decimal (i .before .before .args .x) (i .if1 .taken), ← k .before .digit .ensures) (k .put .ensures)
 
-put-decimal-same-length-2 : (t : ℕ) → put-decimal-lts.Need-same-length-2 (
-  digit-reads.Asked,
-  digit-reads.Learnt,
-  put-reads.Asked,
-  put-reads.Learnt,
-  put-decimal-below t,
-  put-decimal.Post,
-) (put-decimal-at t) put-decimal.Post
-put-decimal-same-length-2 t c = search needs
+  put-decimal-put-decimal-requires : put-decimal-lts.Need-put-decimal-requires (claims t) (put-decimal-at t) put-decimal.Post
+  put-decimal-put-decimal-requires c κs = let s = c .before .before .before in (rw (← s .pre .0) (omega arith), s .pre .1)
 
-put-decimal-returns-2 : (t : ℕ) → put-decimal-lts.Need-returns-2 (
-  digit-reads.Asked,
-  digit-reads.Learnt,
-  put-reads.Asked,
-  put-reads.Learnt,
-  put-decimal-below t,
-  put-decimal.Post,
-) (put-decimal-at t) put-decimal.Post
-put-decimal-returns-2 t c =
-    let k = c .before .before in
-    let d = k .before in
-    let q = d .before .before .before .before in
-    let s = q .before .before .before .before in
-    rw (decimal-step (s .args .x) (s .fits .x .fits) (q .before .before .if1 .left), ← d .digit2 .ensures) (wrote-then (q .put-decimal .ensures) (k .put2 .ensures))
+  put-decimal-digit-requires-2 : put-decimal-lts.Need-digit-requires-2 (claims t) (put-decimal-at t) put-decimal.Post
+  put-decimal-digit-requires-2 c κs = search needs
+
+  put-decimal-put-requires-2 : put-decimal-lts.Need-put-requires-2 (claims t) (put-decimal-at t) put-decimal.Post
+  put-decimal-put-requires-2 c κs = wrote-within (rest c .put-decimal .ensures)
+
+  put-decimal-same-length-2 : put-decimal-lts.Need-same-length-2 (claims t) (put-decimal-at t) put-decimal.Post
+  put-decimal-same-length-2 c = search needs
+
+  put-decimal-returns-2 : put-decimal-lts.Need-returns-2 (claims t) (put-decimal-at t) put-decimal.Post
+  put-decimal-returns-2 c =
+      let k = c .before .before in
+      let q = rest (k .before) in
+      let s = q .before .before .before .before in
+      rw (decimal-step (s .args .x) (s .fits .x .fits) (q .before .before .if1 .left), ← k .before .digit2 .ensures) (wrote-then (q .put-decimal .ensures) (k .put2 .ensures))
 
 pub +put-decimal-spec : {M : Type 1} → statement M
-+put-decimal-spec = close μ-put-decimal λ t. put-decimal-lts.spec (
-  digit-reads.Asked,
-  digit-reads.Learnt,
-  put-reads.Asked,
-  put-reads.Learnt,
-  put-decimal-below t,
-  put-decimal.Post,
-)
++put-decimal-spec = close μ-put-decimal λ t. put-decimal-lts.spec (claims t)
     (put-decimal-at t)
     put-decimal.Post
     (put-decimal-digit-requires t)
