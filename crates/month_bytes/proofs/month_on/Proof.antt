@@ -9,13 +9,15 @@ use Rattle.month_bytes.proofs.TableLaws.{bad-lengths, many-rows, tables
 use Rattle.month_bytes.proofs.month_on.Statement.{statement}
 use Rattle.month_bytes.proofs.month_on.Tie as tie
 
--- past the test of the lengths
-module _ (c : tie.Else1) where
-  abbrev start : tie.Start
-  start = c .before .before .before .before .before
+-- past the test of the lengths, and past those of the rows and of a month without hours
+abbrev start : tie.Else1 → tie.Start
+start e = e .before .before .before .before .before
 
-  passed : lengthsOk (length (start .args .prices .now)) (length (start .args .imbalance .now)) (start .args .rows) (length (start .args .dm .now)) ≡ true
-  passed = sym (c .before .lengths-ok .ensures) ∙ not-false _ (c .if1 .left)
+passed : (e : tie.Else1) → let a = start e .args in lengthsOk (length (a .prices .now)) (length (a .imbalance .now)) (a .rows) (length (a .dm .now)) ≡ true
+passed e = sym (e .before .lengths-ok .ensures) ∙ not-false _ (e .if1 .left)
+
+abbrev lengths : tie.Else3 → tie.Else1
+lengths k = k .before .before
 
 lengths-ok-requires : tie.Need-lengths-ok-requires
 lengths-ok-requires c κs = search needs
@@ -24,55 +26,38 @@ refused-requires : tie.Need-refused-requires
 refused-requires c κs = search needs
 
 returns : tie.Need-returns
-returns c =
-    let a = c .before .before .before .before .before .before .args in
-    c .refused .ensures
-    ∙ bad-lengths (a .prices .now) (a .imbalance .now) (a .dm .now) (a .rows) (a .group) (sym (c .before .before .lengths-ok .ensures) ∙ not-true _ (c .before .if1 .taken))
+returns c = c .refused .ensures ∙ bad-lengths _ _ _ _ _ (sym (c .before .before .lengths-ok .ensures) ∙ not-true _ (c .before .if1 .taken))
 
 refused-requires-2 : tie.Need-refused-requires-2
 refused-requires-2 c κs = search needs
 
 returns-2 : tie.Need-returns-2
-returns-2 c =
-    let e = c .before .before in
-    let a = start e .args in
-    c .refused2 .ensures ∙ many-rows (a .prices .now) (a .imbalance .now) (a .dm .now) (a .rows) (a .group) (passed e) (c .before .if2 .taken)
+returns-2 c = c .refused2 .ensures ∙ many-rows _ _ _ _ _ (passed (c .before .before)) (c .before .if2 .taken)
 
 step-none-requires : tie.Need-step-none-requires
 step-none-requires c κs =
     let e = c .before .before in
-    let a = start e .args in
-    none-within (a .prices .now) (a .imbalance .now) (a .dm .now) (a .rows) (a .group) (passed e) (c .if3 .taken)
+    none-within _ _ _ _ (start e .args .group) (passed e) (c .if3 .taken)
 
 returns-3 : tie.Need-returns-3
-returns-3 c =
-    let e = c .before .before .before in
-    let a = start e .args in
-    c .step-none .ensures ∙ on-tables (a .prices .now) (a .imbalance .now) (a .dm .now) (a .rows) (a .group) (passed e)
+returns-3 c = c .step-none .ensures ∙ on-tables _ _ _ _ _ (passed (c .before .before .before))
 
 step-large-requires : tie.Need-step-large-requires
 step-large-requires c κs =
-    let e = c .before .before .before in
+    let e = lengths (c .before) in
     let a = start e .args in
-    tables-within (a .prices .now) (a .imbalance .now) (a .dm .now) (a .rows) (a .group) (passed e) 47680 (most-figures (a .prices .now) (a .imbalance .now) (a .dm .now) (a .rows) (a .group) (passed e) (c .before .before .if2 .left))
+    tables-within _ _ _ _ (a .group) (passed e) 47680 (most-figures (a .prices .now) (a .imbalance .now) (a .dm .now) (a .rows) (a .group) (passed e) (c .before .before .if2 .left))
 
 returns-4 : tie.Need-returns-4
-returns-4 c =
-    let e = c .before .before .before .before in
-    let a = start e .args in
-    c .step-large .ensures ∙ on-tables (a .prices .now) (a .imbalance .now) (a .dm .now) (a .rows) (a .group) (passed e)
+returns-4 c = c .step-large .ensures ∙ on-tables _ _ _ _ _ (passed (lengths (c .before .before)))
 
 step-small-requires : tie.Need-step-small-requires
 step-small-requires c κs =
-    let e = c .before .before .before in
-    let a = start e .args in
-    tables-within (a .prices .now) (a .imbalance .now) (a .dm .now) (a .rows) (a .group) (passed e) 745 (c .if4 .left)
+    let e = lengths (c .before) in
+    tables-within _ _ _ _ (start e .args .group) (passed e) 745 (c .if4 .left)
 
 returns-5 : tie.Need-returns-5
-returns-5 c =
-    let e = c .before .before .before .before in
-    let a = start e .args in
-    c .step-small .ensures ∙ on-tables (a .prices .now) (a .imbalance .now) (a .dm .now) (a .rows) (a .group) (passed e)
+returns-5 c = c .step-small .ensures ∙ on-tables _ _ _ _ _ (passed (lengths (c .before .before)))
 
 pub month-on-spec : {M : Type 1} → statement M
 month-on-spec =

@@ -5,23 +5,27 @@ use lib.Seq.{length-take-le}
 use Rattle.month_bytes.proofs.step_within.Statement.{statement}
 use Rattle.month_bytes.proofs.step_within.Tie as tie
 
+-- the start, from before the call's arguments
+abbrev start : tie.After-slice-known → tie.Start
+start k = k .before .before .before .before
+
 slice-relend-prefix-step : tie.Need-slice-relend-prefix-step
 slice-relend-prefix-step c = search needs
 
 slice-aggregate-step : tie.Need-slice-aggregate-step
-slice-aggregate-step c = sym (length-take-le _ _ (c .before .before .before .before .before .pre .prices))
+slice-aggregate-step c = sym (length-take-le _ _ (start (c .before) .pre .prices))
 
 slice-relend-prefix-step-2 : tie.Need-slice-relend-prefix-step-2
 slice-relend-prefix-step-2 c = search needs
 
 slice-aggregate-step-2 : tie.Need-slice-aggregate-step-2
-slice-aggregate-step-2 c = sym (length-take-le _ _ (c .before .before .before .before .before .before .pre .imbalance))
+slice-aggregate-step-2 c = sym (length-take-le _ _ (start (c .before .before) .pre .imbalance))
 
 slice-relend-prefix-step-3 : tie.Need-slice-relend-prefix-step-3
 slice-relend-prefix-step-3 c = search needs
 
 slice-aggregate-step-3 : tie.Need-slice-aggregate-step-3
-slice-aggregate-step-3 c = sym (length-take-le _ _ (c .before .before .before .before .before .before .before .pre .dm))
+slice-aggregate-step-3 c = sym (length-take-le _ _ (start (c .before .before .before) .pre .dm))
 
 step-requires : tie.Need-step-requires
 step-requires c κs =
