@@ -6,14 +6,9 @@ use borrow.Author.Needs.{needs}
 use Rattle.collateral.proofs.items.collateral_of.Statement.{statement}
 use Rattle.collateral.proofs.items.collateral_of.Tie as tie
 
-abbrev start : tie.After-larger → tie.Start
-start c = c .before .before .before .before .before .before .before
-
+-- the sum of the items, added one by one
 sum-fits : (c : tie.After-larger) → c .larger .result + c .before .before .before .imbalance-of .result + c .before .before .risk-of .result + c .before .yek-of .result ≤ 8854500000000000
-sum-fits c =
-    total-fits (start c .args .case) (start c .args .book .now) (start c .pre .0) (start c .pre .1)
-    (c .before .before .before .before .before .margin-of .ensures) (c .before .before .before .before .trading-of .ensures) (c .before .before .before .imbalance-of .ensures)
-    (c .before .before .risk-of .ensures) (c .before .yek-of .ensures) (c .larger .ensures)
+sum-fits c = search total-fits
 
 margin-of-requires : tie.Need-margin-of-requires
 margin-of-requires c κs = search needs
@@ -43,10 +38,7 @@ add-total-3 : tie.Need-add-total-3
 add-total-3 c = omega (arith, sum-fits c)
 
 returns : tie.Need-returns
-returns c =
-    items-are (start c .args .case) (start c .args .book .now) (start c .pre .0) (start c .pre .1)
-    (c .before .before .before .before .before .margin-of .ensures) (c .before .before .before .before .trading-of .ensures) (c .before .before .before .imbalance-of .ensures)
-    (c .before .before .risk-of .ensures) (c .before .yek-of .ensures) (c .larger .ensures)
+returns c = search items-are
 
 pub collateral-of-spec : {M : Type 1} → statement M
 collateral-of-spec =

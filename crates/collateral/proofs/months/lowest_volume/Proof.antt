@@ -31,13 +31,16 @@ mul-last c = search needs
 array-copy-out-last : tie.Need-array-copy-out-last Inv-loop μ-loop
 array-copy-out-last c = search needs
 
--- the first n are among the three
+-- the start, and that the first n are among the three
+abbrev start : tie.After-struct-told Inv-loop μ-loop → tie.Start Inv-loop μ-loop
+start k = k .before .before .before
+
 fits : (s : tie.Start Inv-loop μ-loop) → s .args .used ≤ length (s .args .t1)
 fits s = rw (s .good .0 .1 .0 .1) (s .pre)
 
 loop-holds : tie.Need-loop-holds Inv-loop μ-loop
 loop-holds c =
-    let s = c .before .before .before in (
+    let s = start c in (
       search needs,
       volume-back _ (c .struct-told .given .1 .0 .1) ∙ lowest-last (s .args .t1) (s .args .used) (fits s) (omega arith),
     )
@@ -59,12 +62,13 @@ loop-less c = search needs
 
 loop-again : tie.Need-loop-again Inv-loop μ-loop
 loop-again c =
-    let k = c .before .before .before .before in
-    let s = k .before .before .before .before in
+    let t = c .before .before .before in
+    let k = t .before in
+    let s = start (k .before) in
     let e = volume-back _ (c .before .struct-told2 .given .1 .0 .1) in (
       search needs,
       volume-back _ (c .lower-of .ok)
-          ∙ lowest-more (s .args .t1) (s .args .used) (fits s) (k .loop .i) (c .before .before .before .loop-test .taken) (k .loop .inv .0) (k .loop .inv .1)
+          ∙ lowest-more (s .args .t1) (s .args .used) (fits s) (k .loop .i) (t .loop-test .taken) (k .loop .inv .0) (k .loop .inv .1)
           (c .lower-of .ensures ∙ ap (λ z. lower z (toZ w64 (k .loop .volume))) e),
     )
 
