@@ -19,6 +19,10 @@ Inv-loop cells day k days walk₀ i₀ walk i =
 abbrev μ-loop : tie.MeasureT-loop
 μ-loop cells day k days walk₀ i₀ walk i = days - i
 
+-- the turn, from where the call's arguments are read
+abbrev turn : tie.After-day-before-arg4 Inv-loop μ-loop → tie.At-loop Inv-loop μ-loop
+turn c = c .before .before .before .before .before
+
 window-days-requires : tie.Need-window-days-requires Inv-loop μ-loop
 window-days-requires c κs = search needs
 
@@ -66,7 +70,7 @@ element-copy-out-day-before-4 c = search needs
 
 day-before-requires : tie.Need-day-before-requires Inv-loop μ-loop
 day-before-requires c κs =
-    let k = c .before .before .before .before .before in
+    let k = turn c in
     let l = k .before .before .pre in
     let i = k .loop .i in
     omega (arith, l .at-most (4 * i), l .at-most (4 * i + 1), l .at-most (4 * i + 2), l .at-most (4 * i + 3))
@@ -79,7 +83,7 @@ loop-less c = search needs
 
 loop-again : tie.Need-loop-again Inv-loop μ-loop
 loop-again c =
-    let k = c .before .before .before .before .before .before in
+    let k = turn (c .before) in
     let s = k .before .before in
     let m =
     walk-more (s .args .cells .now) (s .args .day) (k .loop .i) (omega arith) (omega arith) (k .loop .walk .ahead) (k .loop .walk .intraday)

@@ -16,24 +16,30 @@ entry s = decode (drop (s .args .at) (s .args .book .now)) .label
 
 -- the figures read of it
 module _ (c : tie.After-is-money) where
+  abbrev dated : tie.After-day-at
+  dated = c .before .before
+
+  abbrev own : tie.Else1
+  own = dated .before .before
+
   abbrev start : tie.Start
-  start = c .before .before .before .before .before .before .before
+  start = own .before .before .before
 
   abbrev g : ℕ
   g = start .args .day
 
   abbrev d : ℕ
-  d = c .before .before .day-at .result
+  d = dated .day-at .result
 
   abbrev t : ℕ
-  t = c .before .before .before .type-at .result
+  t = dated .before .type-at .result
 
   figures : Read (start .args .party) (entry start) t d (c .before .status-at .result) (c .is-money .result)
   figures =
       record {
-        party = sym (c .before .before .before .before .before .party-at .ensures) ∙ c .before .before .before .before .if1 .left;
-        type = c .before .before .before .type-at .ensures;
-        day = c .before .before .day-at .ensures;
+        party = sym (own .before .party-at .ensures) ∙ own .if1 .left;
+        type = dated .before .type-at .ensures;
+        day = dated .day-at .ensures;
         status = c .before .status-at .ensures;
         money = c .is-money .ensures;
       }
@@ -62,7 +68,7 @@ is-money-requires : tie.Need-is-money-requires
 is-money-requires c κs = search needs
 
 add-counts : tie.Need-add-counts
-add-counts c = omega (arith, c .before .before .day-at .ensures, day-bits (drop (start c .args .at) (start c .args .book .now)))
+add-counts c = omega (arith, dated c .day-at .ensures, day-bits (drop (start c .args .at) (start c .args .book .now)))
 
 sub-result : tie.Need-sub-result
 sub-result c = omega (arith, inside c)
