@@ -30,9 +30,12 @@ volumes-ok-requires-2 c κs = search needs
 
 -- with lengths that agree, the test of the figures decides
 module _ (c : tie.After-volumes-ok2) where
+  abbrev agreed : tie.Else1
+  agreed = c .before .before .before
+
   abbrev asked : Tables
   asked =
-      let a = c .before .before .before .before .before .before .args in
+      let a = agreed .before .before .before .args in
       tablesOf (a .prices .now) (a .imbalance .now) (a .rows) (a .dm .now) (a .group)
 
   abbrev tested : Bool
@@ -43,7 +46,7 @@ module _ (c : tie.After-volumes-ok2) where
   unfolding monthCause
   decided t e =
       rw (
-        sym (c .before .before .before .before .lengths-agree .ensures) ∙ not-false _ (c .before .before .before .if1 .left),
+        sym (agreed .before .lengths-agree .ensures) ∙ not-false _ (agreed .if1 .left),
         sym (c .before .before .prices-ok .ensures),
         sym (c .before .volumes-ok .ensures),
         sym (c .volumes-ok2 .ensures),

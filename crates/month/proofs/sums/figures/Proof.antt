@@ -26,33 +26,35 @@ loop-holds c = (omega arith, refl, refl)
 cast-row-sums : tie.Need-cast-row-sums Inv-loop μ-loop
 cast-row-sums c = search needs
 
-module _ (s : tie.Start Inv-loop μ-loop) where
+-- in a turn and after the loop: the start, and the tables that came in
+module _ (k : tie.At-loop Inv-loop μ-loop) where
+  abbrev start : tie.Start Inv-loop μ-loop
+  start = k .before .before
+
   abbrev asked : Tables
-  asked = tablesOf (s .args .prices .now) (s .args .imbalance .now) (s .args .rows) (s .args .dm .now) (s .args .group)
+  asked = let a = start .args in tablesOf (a .prices .now) (a .imbalance .now) (a .rows) (a .dm .now) (a .group)
 
   ranges : MonthRanges asked
-  ranges = month-ranges asked (s .pre)
+  ranges = month-ranges asked (start .pre)
 
 -- what a row adds, from the result of `row_sums`
 module _ (c : tie.After-row-sums Inv-loop μ-loop) where
   abbrev here : tie.At-loop Inv-loop μ-loop
   here = c .before .before
 
-  turn : RowAdded (asked (here .before .before)) (here .loop .row) (here .loop .weighted) (here .loop .weights)
+  turn : RowAdded (asked here) (here .loop .row) (here .loop .weighted) (here .loop .weights)
       (c .row-sums .result .weighted) (c .row-sums .result .weights)
   turn =
-      row-added (asked (here .before .before)) (ranges (here .before .before)) (here .loop .row)
+      row-added (asked here) (ranges here) (here .loop .row)
       (c .before .loop-test .taken) (here .loop .inv .1) (here .loop .inv .2) (c .row-sums .ensures .0) (c .row-sums .ensures .1)
 
 mul-row-sums : tie.Need-mul-row-sums Inv-loop μ-loop
 mul-row-sums c =
-    let s = c .before .before .before in
-    omega (arith, row-place (asked s) (ranges s) (c .before .loop .row) (c .loop-test .taken))
+    let k = c .before in
+    omega (arith, row-place (asked k) (ranges k) (k .loop .row) (c .loop-test .taken))
 
 row-sums-requires : tie.Need-row-sums-requires Inv-loop μ-loop
-row-sums-requires c κs =
-    let s = c .before .before .before in
-    priced (asked s) (ranges s) (c .before .loop .row) (c .loop-test .taken)
+row-sums-requires c κs = let k = c .before in priced (asked k) (ranges k) (k .loop .row) (c .loop-test .taken)
 
 add-weighted : tie.Need-add-weighted Inv-loop μ-loop
 add-weighted c = omega (arith, turn (c .before))
@@ -74,18 +76,17 @@ average-requires c κs = search needs
 
 mul-row-volume : tie.Need-mul-row-volume Inv-loop μ-loop
 mul-row-volume c =
-    let s = c .before .before .before .before in
-    omega (arith, row-place (asked s) (ranges s) (s .args .group) (ranges s .group))
+    let k = c .before .before in
+    omega (arith, row-place (asked k) (ranges k) (start k .args .group) (ranges k .group))
 
 row-volume-requires : tie.Need-row-volume-requires Inv-loop μ-loop
-row-volume-requires c κs = let s = c .before .before .before .before in besideDm (asked s) (ranges s)
+row-volume-requires c κs = let k = c .before .before in besideDm (asked k) (ranges k)
 
 returns : tie.Need-returns Inv-loop μ-loop
 returns c =
     let k = c .before .before .before in
-    let s = k .before .before in
-    let last : k .loop .row ≡ s .args .rows = omega arith in
-    figures-are (asked s) (ranges s) (k .loop .row) (k .loop .weighted) (k .loop .weights) last (k .loop .inv .1) (k .loop .inv .2)
+    let last : k .loop .row ≡ start k .args .rows = omega arith in
+    figures-are (asked k) (ranges k) (k .loop .row) (k .loop .weighted) (k .loop .weights) last (k .loop .inv .1) (k .loop .inv .2)
     (c .before .average .ensures) (c .row-volume .ensures) (record { sfits = c .row-volume .ok })
 
 pub figures-spec : {M : Type 1} → statement M
