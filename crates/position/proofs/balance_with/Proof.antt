@@ -6,9 +6,23 @@ use mir.ValLaws.{toZ-ofZ}
 use borrow.Author.Needs.{needs}
 use Rattle.rules.specs.Balance.{dayAhead, delivery}
 use Rattle.words.proofs.BookCode.{book-long}
-use Rattle.position.proofs.AnswerLaws.{passes, balance-refused, balance-done, read-bounded}
+use Rattle.position.proofs.AnswerLaws.{Passes, passes, balance-refused, balance-done, read-bounded}
 use Rattle.position.proofs.balance_with.Statement.{statement}
 use Rattle.position.proofs.balance_with.Tie as tie
+
+-- past the test of the cause: the start, and that the arguments pass
+module _ (e : tie.Else1) where
+  abbrev start : tie.Start
+  start = e .before .before .before
+
+  passed : let a = start .args in Passes (a .book .now) (a .party) (a .day)
+  passed =
+      let a = start .args in
+      passes (a .book .now) (a .party) (a .day) (e .before .cause-of .ensures) (e .if1 .left)
+
+-- the scan, from before the call for the balance
+abbrev read : tie.After-tolerance-of → tie.After-scan
+read t = t .before .before .before
 
 cause-of-requires : tie.Need-cause-of-requires
 cause-of-requires c κs = search needs
@@ -20,42 +34,25 @@ returns c =
     balance-refused (a .book .now) (a .party) (a .day) (b .cause-of .ensures) (cond (a .ahead) dayAhead delivery) (c .if1 .taken)
 
 scan-requires : tie.Need-scan-requires
-scan-requires c κs =
-    let b = c .before in
-    let a = b .before .before .args in
-    let p = passes (a .book .now) (a .party) (a .day) (b .cause-of .ensures) (c .if1 .left) in
-    (p .is-book, (p .party, p .day))
+scan-requires c κs = (passed c .is-book, (passed c .party, passed c .day))
 
 coefficient-of-requires : tie.Need-coefficient-of-requires
-coefficient-of-requires c κs =
-    let i = c .before .before in
-    let b = i .before in
-    let a = b .before .before .args in
-    let p = passes (a .book .now) (a .party) (a .day) (b .cause-of .ensures) (i .if1 .left) in
-    book-long (a .book .now) (p .is-book)
+coefficient-of-requires c κs = let e = c .before .before in book-long (start e .args .book .now) (passed e .is-book)
 
 tolerance-of-requires : tie.Need-tolerance-of-requires
-tolerance-of-requires c κs =
-    let i = c .before .before .before in
-    let b = i .before in
-    let a = b .before .before .args in
-    let p = passes (a .book .now) (a .party) (a .day) (b .cause-of .ensures) (i .if1 .left) in
-    book-long (a .book .now) (p .is-book)
+tolerance-of-requires c κs = coefficient-of-requires (c .before) κs
 
 balance-of-requires : tie.Need-balance-of-requires
 balance-of-requires c κs =
-    let i = c .before .before .before .before in
-    let b = i .before in
-    let a = b .before .before .args in
-    let p = passes (a .book .now) (a .party) (a .day) (b .cause-of .ensures) (i .if1 .left) in
-    read-bounded (a .book .now) (p .is-book) (a .party) (a .day) (c .before .before .before .scan .ensures) (c .before .coefficient-of .ensures) (c .tolerance-of .ensures)
+    let r = read c in
+    let a = start (r .before) .args in
+    read-bounded (a .book .now) (passed (r .before) .is-book) (a .party) (a .day) (r .scan .ensures) (c .before .coefficient-of .ensures) (c .tolerance-of .ensures)
 
 returns-2 : tie.Need-returns-2
 returns-2 c =
-    let r = c .before .before .before .before in
-    let b = r .before .before in
-    let a = b .before .before .args in
-    balance-done (a .book .now) (a .party) (a .day) (b .cause-of .ensures) (cond (a .ahead) dayAhead delivery) (r .before .if1 .left) (r .scan .ensures) (c .before .before .coefficient-of .ensures) (c .before .tolerance-of .ensures)
+    let r = read (c .before) in
+    let a = start (r .before) .args in
+    balance-done (a .book .now) (a .party) (a .day) (r .before .before .cause-of .ensures) (cond (a .ahead) dayAhead delivery) (r .before .if1 .left) (r .scan .ensures) (c .before .before .coefficient-of .ensures) (c .before .tolerance-of .ensures)
     (toZ-ofZ w64 (c .balance-of .result) (record { sfits = c .balance-of .ok }) ∙ c .balance-of .ensures)
 
 pub balance-with-spec : {M : Type 1} → statement M
