@@ -19,8 +19,15 @@ Inv-loop book party days out₀ at next₀ day₀ out next day =
 abbrev μ-loop : tie.MeasureT-loop
 μ-loop book party days out₀ at next₀ day₀ out next day = 36525 - day
 
+-- the start, and the test of a turn
+abbrev start : tie.After-slice-known Inv-loop μ-loop → tie.Start Inv-loop μ-loop
+start k = k .before .before .before
+
+abbrev test : tie.After-put-named-arg Inv-loop μ-loop → tie.In-loop Inv-loop μ-loop
+test c = c .before .before
+
 loop-holds : tie.Need-loop-holds Inv-loop μ-loop
-loop-holds c = (zero-le, left-start (c .before .before .before .args .out .now) (c .before .before .before .args .at) _ (c .before .before .before .pre .0))
+loop-holds c = (zero-le, left-start (start c .args .out .now) (start c .args .at) _ (start c .pre .0))
 
 cast-put-named : tie.Need-cast-put-named Inv-loop μ-loop
 cast-put-named c = search needs
@@ -30,9 +37,8 @@ shared-slice-read-put-named c = search needs
 
 put-named-requires : tie.Need-put-named-requires Inv-loop μ-loop
 put-named-requires c κs =
-    let l = c .before .before .before in
-    let s = l .before .before .before .before in
-    let p = s .pre .1 .1 in
+    let l = test c .before in
+    let p = start (l .before) .pre .1 .1 in
     (l .loop .inv .1 .within, record { is-book = p .0; party-above = p .1 .0; party = p .1 .1; day = omega arith })
 
 add-day : tie.Need-add-day Inv-loop μ-loop
@@ -44,8 +50,8 @@ loop-less c = search needs
 loop-again : tie.Need-loop-again Inv-loop μ-loop
 loop-again c =
     let p = c .before .before in
-    let l = p .before .before .before .before in
-    (omega arith, left-step (l .loop .inv .1) (each-step _ 36525 (l .loop .day) (p .before .before .before .loop-test .taken)) (p .put-named .ensures))
+    let t = test (p .before) in
+    (omega arith, left-step (t .before .loop .inv .1) (each-step _ 36525 (t .before .loop .day) (t .loop-test .taken)) (p .put-named .ensures))
 
 same-length : tie.Need-same-length Inv-loop μ-loop
 same-length c = c .before .loop .inv .1 .long

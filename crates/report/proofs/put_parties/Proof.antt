@@ -15,9 +15,16 @@ Inv-loop book file parties out₀ at next₀ party₀ out next party =
 abbrev μ-loop : tie.MeasureT-loop
 μ-loop book file parties out₀ at next₀ party₀ out next party = 1000 - party
 
+-- the start, and the test of a turn
+abbrev start : tie.After-slice-known Inv-loop μ-loop → tie.Start Inv-loop μ-loop
+start k = k .before .before .before .before
+
+abbrev test : tie.After-put-party-arg Inv-loop μ-loop → tie.In-loop Inv-loop μ-loop
+test c = c .before .before
+
 loop-holds : tie.Need-loop-holds Inv-loop μ-loop
 unfolding allLines
-loop-holds c = ((omega arith, omega arith), left-start (c .before .before .before .before .args .out .now) (c .before .before .before .before .args .at) _ (c .before .before .before .before .pre .0))
+loop-holds c = ((omega arith, omega arith), left-start (start c .args .out .now) (start c .args .at) _ (start c .pre .0))
 
 cast-put-party : tie.Need-cast-put-party Inv-loop μ-loop
 cast-put-party c = search needs
@@ -27,9 +34,9 @@ shared-slice-read-put-party c = search needs
 
 put-party-requires : tie.Need-put-party-requires Inv-loop μ-loop
 put-party-requires c κs =
-    let l = c .before .before .before in
-    let s = l .before .before .before .before .before in
-    (l .loop .inv .1 .within, (s .pre .1 .1 .0 (l .loop .party) (c .before .before .loop-test .taken), (s .pre .1 .1 .1, (l .loop .inv .0 .0, omega arith))))
+    let l = test c .before in
+    let s = start (l .before) in
+    (l .loop .inv .1 .within, (s .pre .1 .1 .0 (l .loop .party) (test c .loop-test .taken), (s .pre .1 .1 .1, (l .loop .inv .0 .0, omega arith))))
 
 add-party : tie.Need-add-party Inv-loop μ-loop
 add-party c = search needs
@@ -40,8 +47,8 @@ loop-less c = search needs
 loop-again : tie.Need-loop-again Inv-loop μ-loop
 loop-again c =
     let p = c .before .before in
-    let l = p .before .before .before .before in
-    ((omega arith, omega arith), left-step (l .loop .inv .1) (each-step _ 1000 (l .loop .party) (p .before .before .before .loop-test .taken)) (p .put-party .ensures))
+    let t = test (p .before) in
+    ((omega arith, omega arith), left-step (t .before .loop .inv .1) (each-step _ 1000 (t .before .loop .party) (t .loop-test .taken)) (p .put-party .ensures))
 
 same-length : tie.Need-same-length Inv-loop μ-loop
 same-length c = c .before .loop .inv .1 .long

@@ -9,9 +9,13 @@ use borrow.Author.Needs.{needs}
 use Rattle.report.proofs.put_party.Statement.{statement}
 use Rattle.report.proofs.put_party.Tie as tie
 
+-- the start, from the test of the name
+abbrev start : tie.After-slice-known → tie.Start
+start k = k .before .before .before
+
 returns : tie.Need-returns
 returns c =
-    let s = c .before .before .before .before in
+    let s = start (c .before) in
     rw (no-lines (s .args .file .now) (s .args .book .now) (s .args .party) (sym (s .pre .1 .0) ∙ not-true (s .args .named) (c .if1 .taken))) (wrote-nothing _ _ (s .pre .0))
 
 slice-aggregate-put-party-with : tie.Need-slice-aggregate-put-party-with
@@ -19,7 +23,7 @@ slice-aggregate-put-party-with c = search needs
 
 put-party-with-requires : tie.Need-put-party-with-requires
 put-party-with-requires c κs =
-    let s = c .before .before .before .before .before .before in
+    let s = start (c .before .before .before) in
     (s .pre .0, (length-replicate 36525 false, ((λ d h. getD-replicate 36525 d false false h), s .pre .1 .1)))
 
 same-length : tie.Need-same-length

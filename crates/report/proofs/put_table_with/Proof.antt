@@ -5,6 +5,10 @@ use borrow.Author.Needs.{needs}
 use Rattle.report.proofs.put_table_with.Statement.{statement}
 use Rattle.report.proofs.put_table_with.Tie as tie
 
+-- the header written, from before the call for the lines
+abbrev headed : tie.After-put-parties-arg2 → tie.After-put-bytes
+headed c = c .before .before .before .before
+
 mark-parties-requires : tie.Need-mark-parties-requires
 mark-parties-requires c κs = search needs
 
@@ -16,7 +20,7 @@ put-bytes-requires c κs = search needs
 
 put-parties-requires : tie.Need-put-parties-requires
 put-parties-requires c κs =
-    let b = c .before .before .before .before in
+    let b = headed c in
     let m = b .before .before .before .before .before in
     let s = m .before .before .before .before .before .before in (
       wrote-within (b .put-bytes .ensures),
@@ -33,9 +37,7 @@ same-length-2 : tie.Need-same-length-2
 same-length-2 c = search needs
 
 returns : tie.Need-returns
-returns c =
-    let k = c .before .before in
-    wrote-then (k .before .before .before .before .before .put-bytes .ensures) (k .put-parties .ensures)
+returns c = let k = c .before .before in wrote-then (headed (k .before) .put-bytes .ensures) (k .put-parties .ensures)
 
 pub put-table-with-spec : {M : Type 1} → statement M
 put-table-with-spec =

@@ -4,6 +4,13 @@ use borrow.Author.Needs.{needs}
 use Rattle.report.proofs.report_into.Statement.{statement}
 use Rattle.report.proofs.report_into.Tie as tie
 
+-- the file read, and the book opened before
+abbrev read : tie.After-struct-known → tie.After-read-file
+read k = k .before .before .before
+
+abbrev opened : tie.After-read-file → tie.After-open-default
+opened r = r .before .before .before .before
+
 open-default-requires : tie.Need-open-default-requires
 open-default-requires c κs = search needs
 
@@ -23,14 +30,13 @@ returns : tie.Need-returns
 returns c =
     let k = c .before .before in
     let i = k .before .before in
-    let r = i .before .before .before .before in
-    let o = r .before .before .before .before in
-    rw (report-refused _ _ (rw (o .open-default .ensures .1) at (r .read-file .ensures .0)) (i .if1 .taken)) (k .refused .ensures)
+    let r = read (i .before) in
+    rw (← opened r .open-default .ensures .1, report-refused _ _ (r .read-file .ensures .0) (i .if1 .taken)) (k .refused .ensures)
 
 put-table-requires : tie.Need-put-table-requires
 put-table-requires c κs =
     let i = c .before .before in
-    let r = i .before .before .before .before in
+    let r = read (i .before) in
     rw (r .read-file .ensures .1) (report-book _ _ (r .read-file .ensures .0) (i .if1 .left))
 
 same-length-3 : tie.Need-same-length-3
@@ -43,9 +49,8 @@ returns-2 : tie.Need-returns-2
 returns-2 c =
     let k = c .before .before in
     let i = k .before .before .before in
-    let r = i .before .before .before .before in
-    let o = r .before .before .before .before in
-    rw (report-done _ _ (rw (o .open-default .ensures .1) at (r .read-file .ensures .0)) (i .if1 .left), ← o .open-default .ensures .1, ← r .read-file .ensures .1) (k .put-table .ensures)
+    let r = read (i .before) in
+    rw (← opened r .open-default .ensures .1, report-done _ _ (r .read-file .ensures .0) (i .if1 .left), ← r .read-file .ensures .1) (k .put-table .ensures)
 
 pub report-into-spec : {M : Type 1} → statement M
 report-into-spec =

@@ -12,6 +12,10 @@ use borrow.Author.Needs.{needs}
 use Rattle.report.proofs.input.report_from.Statement.{statement}
 use Rattle.report.proofs.input.report_from.Tie as tie
 
+-- the bytes read, past the test of a read that failed
+abbrev read : tie.Else1 → tie.After-read-whole
+read e = e .before .before .before
+
 read-whole-requires : tie.Need-read-whole-requires
 read-whole-requires c κs = search needs
 
@@ -31,7 +35,7 @@ slice-reshare-prefix-report : tie.Need-slice-reshare-prefix-report
 slice-reshare-prefix-report c = search needs
 
 slice-aggregate-report : tie.Need-slice-aggregate-report
-slice-aggregate-report c = sym (length-take-le _ _ (c .before .before .before .before .read-whole .ensures))
+slice-aggregate-report c = sym (length-take-le _ _ (read (c .before) .read-whole .ensures))
 
 report-requires : tie.Need-report-requires
 report-requires c κs = search needs
@@ -43,7 +47,7 @@ returns-2 : tie.Need-returns-2
 unfolding printed
 returns-2 c =
     let w = c .report .ensures .1 (omega arith) in
-    (c .before .before .before .before .before .before .read-whole .ensures, (w, wrote-counts (c .report .ensures .0)))
+    (read (c .before .before .before) .read-whole .ensures, (w, wrote-counts (c .report .ensures .0)))
 
 pub report-from-spec : {M : Type 1} → statement M
 report-from-spec =
