@@ -28,13 +28,7 @@ same-length-3 : tie.Need-same-length-3
 same-length-3 c = search needs
 
 returns : tie.Need-returns
-returns c =
-    let d = c .before .before .before .before .before in
-    let v = d .before .before .before in
-    let p = v .before .before .before .before in
-    let s = p .before .before .before .before .before .before in
-    c .month-step .ensures
-    ∙ ap monthAnswer (tables-read (s .pre) (p .read-words .ensures) (v .read-figures .ensures) (d .read-figures2 .ensures) (s .args .rows) (s .args .group))
+returns c = c .month-step .ensures ∙ ap monthAnswer (search tables-read)
 
 pub step-spec : {M : Type 1} → statement M
 step-spec =
