@@ -20,9 +20,9 @@ abbrev start : tie.After-struct-known → tie.Start
 start k = k .before .before .before
 
 block-names : (j : tie.Else2) (d : ℕ) →
-    let r = j .before .before .head-at .result in
-    let a = start (j .before .before .before .before) .args in
-    any (itemNames (a .party) d) (itemsAt (a .file .now) (a .c)) ≡ itemNames (a .party) d (emptyBlock (r .party) (r .day))
+    let h = j .before .before in
+    let a = start (h .before .before) .args in
+    any (itemNames (a .party) d) (itemsAt (a .file .now) (a .c)) ≡ itemNames (a .party) d (emptyBlock (h .head-at .result .party) (h .head-at .result .day))
 block-names j d =
     let h = j .before .before in
     let a = start (h .before .before) .args in
