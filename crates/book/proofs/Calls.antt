@@ -2,15 +2,14 @@
 use mathlib.Core.Path.{_≡_, sym, ap, ap₂, _∙_}
 use mathlib.Core.Bool.{true}
 use mathlib.Core.List.{List}
-use Prim.Native.Nat.{ℕ, _+_, _*_, _≤_}
-use native.Mathlib.Omega.{arith}
-use lib.ListN.{length, set}
+use Prim.Native.Nat.{ℕ, _≤_, _<_}
+use lib.ListN.{length}
 use Rattle.rules.specs.Entry.{Key, recordOf, legal, standing, withdrawn}
-use Rattle.rules.specs.Words.{countOf}
-use Rattle.rules.specs.Stores.{posted, storedAt, restatused}
+use Rattle.rules.specs.Words.{countOf, roomIn}
+use Rattle.rules.specs.Stores.{posted, restatused}
 use Rattle.rules.specs.Calls.{post, withdraw, figuresOn, causeOf, wordsAfter, postAnswer}
 use Rattle.rules.specs.declared.Posted.{Posted}
-use Rattle.rules.proofs.WordLaws.{room-words, book-facts}
+use Rattle.rules.proofs.WordLaws.{book-facts}
 use Rattle.rules.proofs.BookLaws.{new-legal}
 use Rattle.rules.proofs.CallLaws.{entries-count, refused-words, refused-figures, done-figures, post-passes, withdraw-passes, post-stores, withdraw-stores}
 use Rattle.words.proofs.BookCode.{Placed, book-entry}
@@ -28,11 +27,12 @@ module _ (ws : List ℕ) (k : Key) (a : ℕ) {cause : ℕ} (e : cause ≡ causeO
     done : causeOf ws (post k a) ≡ 0
     done = sym e ∙ z
 
-    -- where a new entry goes, and that it may stand there
-    pub post-place : 3 + 5 * countOf ws + 5 ≤ length ws
-    post-place =
-        let p = post-passes ws k a done in
-        omega (arith, room-words (countOf ws + 1) (length ws) (book-facts ws (p .is-book) .long) (omega arith))
+    -- a new entry has a place and may stand there
+    pub post-long : 3 ≤ length ws
+    post-long = book-facts ws (post-passes ws k a done .is-book) .long
+
+    pub post-room : countOf ws < roomIn (length ws)
+    post-room = post-passes ws k a done .room
 
     pub post-legal : legal (recordOf k standing a) ≡ true
     post-legal = new-legal k a (post-passes ws k a done .faultless)
@@ -42,9 +42,8 @@ module _ (ws : List ℕ) (k : Key) (a : ℕ) {cause : ℕ} (e : cause ≡ causeO
     post-answers q =
         ap₂ answered (sym done) (q ∙ sym (entries-count ws) ∙ ap (λ f. f .number) (sym (done-figures ws (post k a) done)))
 
-    pub post-leaves : {n at : ℕ} {vs : List ℕ} → n ≡ countOf ws → at ≡ 3 + 5 * n → vs ≡ storedAt ws at k a → set vs 0 (1610612736 + (n + 1)) ≡ wordsAfter ws (post k a)
-    unfolding posted
-    post-leaves q p s = rw (s, p, q, post-stores ws k a done)
+    pub post-leaves : {vs : List ℕ} → vs ≡ posted ws k a → vs ≡ wordsAfter ws (post k a)
+    post-leaves s = s ∙ sym (post-stores ws k a done)
 
 module _ (ws : List ℕ) (n : ℕ) {cause : ℕ} (e : cause ≡ causeOf ws (withdraw n)) where
   pub withdraw-refuses : (cause ≡ 0 → ⊥) → (cause ≡ causeOf ws (withdraw n)) × (ws ≡ wordsAfter ws (withdraw n))

@@ -1,13 +1,15 @@
 // The book in lent words: is it a book, open, post, withdraw, the number of entries and one entry (document 01, 'The words', 'Entry types').
 ghost use mathlib.Core.Path.{_≡_};
 ghost use lib.ListN.{length};
-ghost use Rattle.rules.specs.Entry.{keyOf};
+ghost use Rattle.rules.specs.Entry.{keyIn, recordIn};
 ghost use Rattle.rules.specs.Words.{isBook};
-ghost use Rattle.rules.specs.Book.{openCause, openWords, defaultCoefficient, defaultTolerance, countAnswer, noRead, readAnswer};
+ghost use Rattle.rules.specs.Book.{openCause, openWords, defaultCoefficient, defaultTolerance, countAnswer, noRead, readOf, readAnswer};
 ghost use Rattle.rules.specs.Calls.{causeOf, wordsAfter, postAnswer};
 ghost use Rattle.rules.specs.Calls as calls;
 use rules::Counted;
+use rules::Entry;
 use rules::EntryRead;
+use rules::Key;
 use rules::Posted;
 use rules::bounds::DEFAULT_COEFFICIENT;
 use rules::bounds::DEFAULT_TOLERANCE;
@@ -73,24 +75,17 @@ pub fn open_default(book: &mut [u32]) -> u32
     open(book, DEFAULT_COEFFICIENT, DEFAULT_TOLERANCE)
 }
 
-fn post_cause(
-    book: &[u32],
-    party: u32,
-    day: u32,
-    entry_type: u32,
-    counterparty: u32,
-    amount: u64,
-) -> u32
-    ensures { λ r. ⌜ r ≡ causeOf (now (book .entry)) (calls.post (keyOf party day «entry_type» counterparty) amount) ⌝ }
+fn post_cause(book: &[u32], key: Key, amount: u64) -> u32
+    ensures { λ r. ⌜ r ≡ causeOf (now (book .entry)) (calls.post (keyIn key) amount) ⌝ }
 {
     if !is_book(book) {
         return NOT_A_BOOK;
     }
-    let fault = words::fault_of(party, day, entry_type, counterparty, amount);
+    let fault = words::fault_of(key, amount);
     if fault != 0 {
         return fault;
     }
-    if words::shut_to(book, day, entry_type, counterparty) {
+    if words::shut_to(book, key) {
         return DAY_CLOSED;
     }
     let count = words::count_of(book) as usize;
@@ -101,18 +96,11 @@ fn post_cause(
 }
 
 // Appends one standing entry and answers its number, counted from 0.
-pub fn post(
-    book: &mut [u32],
-    party: u32,
-    day: u32,
-    entry_type: u32,
-    counterparty: u32,
-    amount: u64,
-) -> Posted
-    ensures answer { λ r. ⌜ r ≡ postAnswer (now (book .entry)) (keyOf party day «entry_type» counterparty) amount ⌝ }
-    ensures words { λ r. ⌜ now (book .exit) ≡ wordsAfter (now (book .entry)) (calls.post (keyOf party day «entry_type» counterparty) amount) ⌝ }
+pub fn post(book: &mut [u32], key: Key, amount: u64) -> Posted
+    ensures answer { λ r. ⌜ r ≡ postAnswer (now (book .entry)) (keyIn key) amount ⌝ }
+    ensures words { λ r. ⌜ now (book .exit) ≡ wordsAfter (now (book .entry)) (calls.post (keyIn key) amount) ⌝ }
 {
-    let cause = post_cause(book, party, day, entry_type, counterparty, amount);
+    let cause = post_cause(book, key, amount);
     if cause != 0 {
         return Posted {
             answer: cause,
@@ -120,9 +108,7 @@ pub fn post(
         };
     }
     let number = words::count_of(book);
-    let at = words::place_of(number);
-    words::store_entry(book, at, party, day, entry_type, counterparty, amount);
-    book[0] = COUNT_WORD + (number + 1);
+    words::append(book, key, amount);
     Posted { answer: 0, number }
 }
 
@@ -181,6 +167,20 @@ fn no_read(cause: u32) -> EntryRead
     }
 }
 
+fn read_of(e: Entry) -> EntryRead
+    ensures { λ r. ⌜ r ≡ readOf (recordIn e) ⌝ }
+{
+    EntryRead {
+        answer: 0,
+        party: e.key.party,
+        day: e.key.day,
+        entry_type: e.key.entry_type,
+        counterparty: e.key.counterparty,
+        status: e.status,
+        amount: e.amount,
+    }
+}
+
 // One entry by its number.
 pub fn entry(book: &[u32], number: u32) -> EntryRead
     ensures { λ r. ⌜ r ≡ readAnswer (now (book .entry)) number ⌝ }
@@ -191,5 +191,5 @@ pub fn entry(book: &[u32], number: u32) -> EntryRead
     if words::count_of(book) <= number {
         return no_read(NO_ENTRY);
     }
-    words::read_at(book, words::place_of(number))
+    read_of(words::read_at(book, words::place_of(number)))
 }

@@ -10,6 +10,7 @@ use caselist::score::told;
 use caselist::words::put;
 use caselist::words::same;
 use caselist::words::word;
+use rules::Key;
 
 fn posted(book: &mut [u32], shadow: &mut [u32], r: Row) -> bool {
     let got = caselist::steps::post(book, r);
@@ -39,7 +40,13 @@ fn opened_default(book: &mut [u32], shadow: &mut [u32], r: Row) -> bool {
 
 // The calls that change nothing refuse it, and so do a post and a withdrawal.
 fn no_book(book: &mut [u32]) -> bool {
-    let got = book::post(book, 1, 9000, 1, 0, 5);
+    let key = Key {
+        party: 1,
+        day: 9000,
+        entry_type: 1,
+        counterparty: 0,
+    };
+    let got = book::post(book, key, 5);
     let read = reads::no_book(book);
     read & (got.answer == 1) & (got.number == 0) & (book::withdraw(book, 0) == 1)
 }

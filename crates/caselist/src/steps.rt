@@ -4,6 +4,7 @@ use crate::rows::low;
 use crate::words::of_kind;
 use crate::words::put;
 use crate::words::put_entry;
+use rules::Key;
 
 // Type and counterparty as the kind 3 word has them.
 pub fn named(entry_type: u64, counterparty: u64) -> u64 {
@@ -12,7 +13,13 @@ pub fn named(entry_type: u64, counterparty: u64) -> u64 {
 
 // Party, day, type, counterparty and amount are the first five figures.
 pub fn post(book: &mut [u32], r: Row) -> rules::Posted {
-    book::post(book, low(r.a), low(r.b), low(r.c), low(r.d), r.e)
+    let key = Key {
+        party: low(r.a),
+        day: low(r.b),
+        entry_type: low(r.c),
+        counterparty: low(r.d),
+    };
+    book::post(book, key, r.e)
 }
 
 fn posted(book: &mut [u32], r: Row) -> bool {

@@ -11,13 +11,12 @@ use lib.Seq.{take-all, drop-drop}
 use Rattle.numbers.specs.Sums.{total}
 use Rattle.numbers.specs.Tests.{all}
 use Rattle.numbers.proofs.TestLaws.{and-split, and-join}
-use Rattle.rules.specs.Entry.{Record, legal}
+use Rattle.rules.specs.Entry.{Record, legal, recordIn, entryOf}
 use Rattle.rules.specs.Words.{mostEntries, isBook, entries, countOf, decode, entryOk, entriesOk, readEntries}
-use Rattle.rules.specs.Book.{readOf}
-use Rattle.rules.specs.declared.EntryRead.{EntryRead}
+use Rattle.rules.specs.declared.Entry.{Entry}
 use Rattle.rules.proofs.WordLaws.{book-facts, entry-facts, read-legal, length-read}
 use Rattle.words.proofs.BookCode.{book-long, book-entry}
-use Rattle.cells.specs.Cells.{Cells, added, over, blank, filled, Limited, AtMost, recordRead}
+use Rattle.cells.specs.Cells.{Cells, added, over, blank, filled, Limited, AtMost}
 use Rattle.cells.proofs.CellLaws.{over-more, total-more, cell-limit}
 
 -- the entries before number i, and entry i
@@ -108,11 +107,11 @@ module _ (ws : List ℕ) (b : isBook ws ≡ true) where
     pub scan-within : 3 + 5 * i + 5 ≤ length ws
     scan-within = book-entry ws b i within .within
 
-    pub scan-legal : {e : EntryRead} → e ≡ readOf (readAt ws i) → legal (recordRead e) ≡ true
+    pub scan-legal : {e : Entry} → e ≡ entryOf (readAt ws i) → legal (recordIn e) ≡ true
     scan-legal q = rw q (legal-at i within)
 
-    pub scan-next : {e : EntryRead} → e ≡ readOf (readAt ws i) → {S : Type 0} {f : Record → S → S} {none s t : S} →
-        Scanned f none ws n i s → t ≡ f (recordRead e) s → Scanned f none ws n (i + 1) t
-    scan-next q {f = f} {s = s} p r = scan-more h p (r ∙ ap (λ x. f (recordRead x) s) q)
+    pub scan-next : {e : Entry} → e ≡ entryOf (readAt ws i) → {S : Type 0} {f : Record → S → S} {none s t : S} →
+        Scanned f none ws n i s → t ≡ f (recordIn e) s → Scanned f none ws n (i + 1) t
+    scan-next q {f = f} {s = s} p r = scan-more h p (r ∙ ap (λ x. f (recordIn x) s) q)
 
 pub ruleset scan = (book-long, scan-start, scan-within, scan-legal, scan-next, scan-done)

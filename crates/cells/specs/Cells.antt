@@ -7,8 +7,7 @@ use Prim.Native.Nat.{ℕ, _+_, _≤_}
 use lib.Dec.{eqb}
 use lib.ListN.{getD, set, replicate}
 use Rattle.numbers.specs.Tests.{any}
-use Rattle.rules.specs.Entry.{Label, Record, keyOf, recordOf, legal}
-use Rattle.rules.specs.declared.EntryRead.{EntryRead}
+use Rattle.rules.specs.Entry.{Label, Record, legal}
 
 -- the cells that an entry goes to, by its key and status; one past the table is none
 abbrev pub Cells : Type 0
@@ -63,7 +62,3 @@ pub record Limited (at : Cells) (most : ℕ) : Type 0 where
 -- no cell is above a number
 pub record AtMost (most : ℕ) (table : List ℕ) : Type 0 where
   pub at-most : (j : ℕ) → getD table j 0 ≤ most
-
--- the record that figures read from an entry stand for
-abbrev pub recordRead : EntryRead → Record
-recordRead e = recordOf (keyOf (e .party) (e .day) (e .«entry_type») (e .counterparty)) (e .status) (e .amount)

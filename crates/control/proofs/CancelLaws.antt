@@ -10,17 +10,16 @@ use lib.Seq.{take-suc}
 use Rattle.numbers.specs.Sums.{total, count}
 use Rattle.numbers.proofs.SumLaws.{total-append, count-le-length}
 use Rattle.numbers.proofs.TestLaws.{all-getD}
-use Rattle.rules.specs.Entry.{Record, noRecord, legal, cancelled}
+use Rattle.rules.specs.Entry.{Record, noRecord, legal, cancelled, recordIn, entryOf}
 use Rattle.rules.specs.Words.{isBook, entries, countOf, decode}
-use Rattle.rules.specs.Book.{entryAt, readOf}
+use Rattle.rules.specs.Book.{entryAt}
 use Rattle.rules.specs.Stores.{restatused}
 use Rattle.rules.specs.Control.{Parties, isToCancel, cancelOf}
-use Rattle.rules.specs.declared.EntryRead.{EntryRead}
+use Rattle.rules.specs.declared.Entry.{Entry}
 use Rattle.rules.proofs.WordLaws.{book-facts, legal-bounds}
 use Rattle.rules.proofs.StatusLaws as status
 use Rattle.rules.proofs.CancelLaws.{cancels}
 use Rattle.words.proofs.BookCode.{Placed, book-entry}
-use Rattle.cells.specs.Cells.{recordRead}
 use Rattle.control.specs.Passes.{cancelledWords}
 
 pub count-few : (f : Record → Bool) (i : ℕ) (rs : List Record) → count f (take i rs) ≤ i
@@ -54,18 +53,18 @@ module _ (who : Parties) (d : ℕ) where
           let k = status.through-book (isToCancel who d) cancelled (cancels who d) ws b i h vs t in
           book-entry vs (k .0) i (k .1)
 
-      module _ (e : EntryRead) (q : e ≡ readOf (decode (drop (3 + 5 * i) vs))) where
-        pub through-read : recordRead e ≡ getD (entries ws) i noRecord
+      module _ (e : Entry) (q : e ≡ entryOf (decode (drop (3 + 5 * i) vs))) where
+        pub through-read : recordIn e ≡ getD (entries ws) i noRecord
         unfolding entryAt
-        through-read = ap recordRead q ∙ status.through-entry (isToCancel who d) cancelled (cancels who d) ws b i h vs t
+        through-read = ap recordIn q ∙ status.through-entry (isToCancel who d) cancelled (cancels who d) ws b i h vs t
 
-        pub through-party : e .party ≤ 999
+        pub through-party : e .key .party ≤ 999
         through-party =
             let l = all-getD legal (entries ws) (book-facts ws b .legals) i noRecord (rw (book-facts ws b .count) h) in
-            legal-bounds (recordRead e) (rw through-read l) .party
+            legal-bounds (recordIn e) (rw through-read l) .party
 
-        pub through-cancelled : {us : List ℕ} → isToCancel who d (recordRead e) ≡ true → us ≡ restatused cancelled vs i → Through who d ws (i + 1) us
+        pub through-cancelled : {us : List ℕ} → isToCancel who d (recordIn e) ≡ true → us ≡ restatused cancelled vs i → Through who d ws (i + 1) us
         through-cancelled y u = status.through-changed (isToCancel who d) cancelled (cancels who d) ws b i h vs t (rw through-read at y) u
 
-        pub through-kept : isToCancel who d (recordRead e) ≡ false → Through who d ws (i + 1) vs
+        pub through-kept : isToCancel who d (recordIn e) ≡ false → Through who d ws (i + 1) vs
         through-kept y = status.through-kept (isToCancel who d) cancelled (cancels who d) ws b i h vs t (rw through-read at y)

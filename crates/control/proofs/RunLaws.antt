@@ -94,9 +94,6 @@ module _ (ws : List ℕ) (b : isBook ws ≡ true) (d : ℕ) where
 
   -- the mark takes the next place
   module _ (room : countOf ws < roomIn (length ws)) where
-    pub mark-place : 3 + 5 * countOf ws + 5 ≤ length ws
-    mark-place = omega (arith, room-words (countOf ws + 1) (length ws) (book-facts ws b .long) (omega arith))
-
     pub mark-stays : d ≤ 36524 → Stays ws (posted ws (keyOf 0 d markType 0) 0) (entries ws ++ (markOf d ∷ [])) (countOf ws + 1)
     unfolding markOf all
     mark-stays h =
@@ -112,11 +109,6 @@ module _ (ws : List ℕ) (b : isBook ws ≡ true) (d : ℕ) where
         })
         (posted-book ws (keyOf 0 d markType 0) 0 b room)
         n
-
-pub mark-posted : (ws : List ℕ) (d : ℕ) {n at : ℕ} {vs : List ℕ} → n ≡ countOf ws → at ≡ placeOf n → vs ≡ storedAt ws at (keyOf 0 d markType 0) 0 →
-    set vs 0 (1610612736 + (n + 1)) ≡ posted ws (keyOf 0 d markType 0) 0
-unfolding posted
-mark-posted ws d q p s = rw (s, p, q)
 
 -- the counts of a pass
 pub pass-counts : (ws : List ℕ) (d : ℕ) (who : Parties) {p n : ℕ} → p ≡ detectedParties who → n ≡ count (isToCancel who d) (entries ws) →

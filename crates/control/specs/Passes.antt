@@ -4,13 +4,14 @@ use mathlib.Core.Bool.{Bool, true}
 use mathlib.Core.List.{List}
 use Prim.Native.Nat.{ℕ}
 use lib.ListN.{replicate}
+use Rattle.rules.specs.Entry.{partyPlaces}
 use Rattle.numbers.specs.Sums.{count}
 use Rattle.rules.specs.Words.{entries, coefficientOf, toleranceOf, laid}
 use Rattle.rules.specs.Control.{Parties, isToCancel, cancelOf, detectedParties}
 use Rattle.control.specs.declared.passes.Passed.{Passed}
 
 unfoldable pub everyone : List Bool
-everyone = replicate 1000 true
+everyone = replicate partyPlaces true
 
 -- the words after a pass, and its counts
 unfoldable pub cancelledWords : Parties → ℕ → List ℕ → List ℕ

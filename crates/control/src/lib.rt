@@ -4,8 +4,8 @@ ghost use Rattle.rules.specs.Calls.{causeOf, wordsAfter, controlAnswer};
 ghost use Rattle.rules.specs.Calls as calls;
 use detection::pairs;
 use detection::sums;
-use detection::sums::NUMBERS;
 use rules::Controlled;
+use rules::bounds::NUMBERS;
 use rules::causes;
 
 mod passes;

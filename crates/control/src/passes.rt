@@ -4,19 +4,18 @@ ghost use mathlib.Core.Bool.{true, false};
 ghost use Prim.Native.Nat.{_+_, _<_, _≤_};
 ghost use lib.ListN.{length};
 ghost use Rattle.numbers.specs.Sums.{count};
-ghost use Rattle.rules.specs.Entry.{keyOf, markType, lastParty, lastDay};
+ghost use Rattle.rules.specs.Entry.{keyOf, markType, lastParty, lastDay, recordIn};
 ghost use Rattle.rules.specs.Words.{isBook, entries, countOf, roomIn};
 ghost use Rattle.rules.specs.Stores.{posted};
 ghost use Rattle.rules.specs.Control.{isToCancel, detectedParties};
-ghost use Rattle.cells.specs.Cells.{recordRead};
 ghost use Rattle.detection.specs.Tables.{flagged};
 ghost use Rattle.control.specs.Passes.{cancelledWords, passOf};
 use detection::sums::Flags;
-use detection::sums::NUMBERS;
-use rules::EntryRead;
+use rules::Entry;
+use rules::Key;
+use rules::bounds::NUMBERS;
 use rules::layout::BILATERAL;
 use rules::layout::CANCELLED;
-use rules::layout::COUNT_WORD;
 use rules::layout::ENTRY_WORDS;
 use rules::layout::HEAD_WORDS;
 use rules::layout::MARK;
@@ -29,14 +28,14 @@ pub struct Passed {
 }
 
 // A standing bilateral sale of the day, counterparty above 0, of a flagged party.
-fn is_to_cancel(e: EntryRead, day: u32, flags: &Flags) -> bool
-    requires { ⌜ e .party ≤ lastParty ⌝ }
-    ensures { λ r. ⌜ r ≡ isToCancel (flagged (now (flags .entry))) day (recordRead e) ⌝ }
+fn is_to_cancel(e: Entry, day: u32, flags: &Flags) -> bool
+    requires { ⌜ e .key .party ≤ lastParty ⌝ }
+    ensures { λ r. ⌜ r ≡ isToCancel (flagged (now (flags .entry))) day (recordIn e) ⌝ }
 {
     (e.status == STANDING)
-        & (e.day == day)
-        & ((e.entry_type == BILATERAL) & (0 < e.counterparty))
-        & flags[e.party as usize]
+        & (e.key.day == day)
+        & ((e.key.entry_type == BILATERAL) & (0 < e.key.counterparty))
+        & flags[e.key.party as usize]
 }
 
 // The sales of flagged parties become cancelled, and are counted.
@@ -86,11 +85,14 @@ pub fn pass(book: &mut [u32], day: u32, flags: &Flags) -> Passed
 
 // The mark of a day takes the next place.
 pub fn append_mark(book: &mut [u32], day: u32)
-    requires { ⌜ isBook (now book) ≡ true ⌝ }
     requires { ⌜ (countOf (now book) < roomIn (length (now book))) × (day ≤ lastDay) ⌝ }
     ensures { λ _. ⌜ now (book .exit) ≡ posted (now (book .entry)) (keyOf 0 day markType 0) 0 ⌝ }
 {
-    let count = words::count_of(book);
-    words::store_entry(book, words::place_of(count), 0, day, MARK, 0, 0);
-    book[0] = COUNT_WORD + (count + 1);
+    let mark = Key {
+        party: 0,
+        day,
+        entry_type: MARK,
+        counterparty: 0,
+    };
+    words::append(book, mark, 0);
 }

@@ -11,7 +11,7 @@ use borrow.Author.Tests.{leb-true, le-leb, lt-leb}
 use Rattle.numbers.specs.Causes.{unless, orElse, firstOf, ifDone}
 use Rattle.numbers.proofs.TestLaws.{every-holds}
 use Rattle.numbers.proofs.CauseLaws.{else-stop, else-none}
-use Rattle.rules.specs.Entry.{Record, fault}
+use Rattle.rules.specs.Entry.{Record, fault, dayPlaces}
 use Rattle.rules.specs.Words.{isBook, entries, countOf, roomIn}
 use Rattle.rules.specs.Book.{isClosed, shutTo}
 use Rattle.rules.specs.DayFile.{Item, line, emptyBlock, itemCause, items, linesOf, isFile, isShaped, wordsOf}
@@ -19,7 +19,7 @@ use Rattle.rules.specs.Calls.{file, figuresOn, causeOf, figuresAt, fileAnswer}
 use Rattle.rules.specs.declared.FileRead.{FileRead}
 use Rattle.rules.proofs.WordLaws.{no-fault}
 use Rattle.rules.proofs.CallLaws.{file-cause, refused-figures, done-figures}
-use Rattle.dayfile.specs.Check.{tableDays, nonePosted, causeBy, firstCause, scanned}
+use Rattle.dayfile.specs.Check.{nonePosted, causeBy, firstCause, scanned}
 
 -- a file is no longer than a file may be
 pub file-bytes : (bs : List ℕ) → isFile bs ≡ true → length bs ≤ 65536
@@ -29,7 +29,7 @@ file-bytes bs e =
 
 -- the table says of each day what the book says
 abbrev pub TableOf : List Bool → List Record → Type 0
-TableOf cs rs = (d : ℕ) → d < tableDays → getD cs d false ≡ isClosed d rs
+TableOf cs rs = (d : ℕ) → d < dayPlaces → getD cs d false ≡ isClosed d rs
 
 cause-by-table : (cs : List Bool) (rs : List Record) → TableOf cs rs → (i : Item) → causeBy cs i ≡ itemCause rs i
 unfolding causeBy itemCause shutTo

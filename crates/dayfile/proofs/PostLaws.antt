@@ -36,11 +36,11 @@ module _ (bs : List ℕ) (c : Cursor) where
       go zero = refl
       go (suc n) = refl
 
-  module _ (n : c .left ≡ 0 → ⊥) (l : Line) (e : l ≡ lineAt bs (c .at)) where
-    pub one-line-stored : (ws : List ℕ) (place : ℕ) → storedFrom ws place (itemsAt bs c) ≡ storedFrom ws place (lineItem c l ∷ [])
+  module _ (n : c .left ≡ 0 → ⊥) (l : Line) (e : l ≡ lineAt bs c) where
+    pub one-line-stored : (ws : List ℕ) (place : ℕ) → storedFrom ws place (itemsAt bs c) ≡ storedFrom ws place (lineItem l ∷ [])
     one-line-stored ws place = ap (storedFrom ws place) (line-held bs c n l e)
 
-    pub one-line-legal : all legal (linesOf (itemsAt bs c)) ≡ true → all legal (linesOf (lineItem c l ∷ [])) ≡ true
+    pub one-line-legal : all legal (linesOf (itemsAt bs c)) ≡ true → all legal (linesOf (lineItem l ∷ [])) ≡ true
     one-line-legal h = rw (line-held bs c n l e) at h
 
 -- items one after the other

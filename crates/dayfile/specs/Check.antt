@@ -12,10 +12,6 @@ use Rattle.rules.specs.DayFile.{Item, line, emptyBlock, itemCause, linesOf}
 use Rattle.rules.specs.declared.FileRead.{FileRead}
 use Rattle.file_walk.specs.declared.Cursor.{Cursor}
 
--- one place a day
-abbrev pub tableDays : ℕ
-tableDays = 36525
-
 -- the causes of an item, with the closed days looked up in a table
 unfoldable pub causeBy : List Bool → Item → ℕ
 causeBy closed (line k a) =

@@ -4,16 +4,17 @@ ghost use mathlib.Core.Bool.{true, false, _||_};
 ghost use mathlib.Core.List.{[]};
 ghost use Prim.Native.Nat.{ℕ, _+_, _*_, _<_, _≤_};
 ghost use lib.ListN.{length, getD, drop};
-ghost use Rattle.rules.specs.Entry.{keyOf};
+ghost use Rattle.rules.specs.Entry.{keyIn, dayPlaces};
 ghost use Rattle.rules.specs.Words.{decode, entryOk, isBook, entries};
 ghost use Rattle.rules.specs.Book.{isMarkOf, isClosed};
 ghost use Rattle.rules.specs.DayFile.{line, emptyBlock, itemCause, items, mostBytes, isFile};
 ghost use Rattle.rules.specs.Calls.{fileAnswer};
 ghost use Rattle.file_walk.specs.Walk.{isMore, itemsAt};
-ghost use Rattle.dayfile.specs.Check.{tableDays, causeBy, firstCause, linesAt, scanned};
+ghost use Rattle.dayfile.specs.Check.{causeBy, firstCause, linesAt, scanned};
 use file_walk::Cursor;
 use file_walk::walk;
 use rules::FileRead;
+use rules::Key;
 use rules::bounds::DAYS;
 use rules::causes::BAD_DAY;
 use rules::causes::BAD_PARTY;
@@ -27,8 +28,8 @@ use rules::layout::MARK;
 fn close_at(book: &[u32], at: usize, closed: &mut [bool])
     requires { ⌜ at + 5 ≤ length (now book) ⌝ }
     requires { ⌜ entryOk (drop at (now book)) ≡ true ⌝ }
-    requires { ⌜ length (now closed) ≡ tableDays ⌝ }
-    ensures { λ _. ⌜ ((d : ℕ) → d < tableDays → getD (now (closed .exit)) d false ≡ getD (now (closed .entry)) d false || isMarkOf d (decode (drop at (now (book .entry))))) ⌝ }
+    requires { ⌜ length (now closed) ≡ dayPlaces ⌝ }
+    ensures { λ _. ⌜ ((d : ℕ) → d < dayPlaces → getD (now (closed .exit)) d false ≡ getD (now (closed .entry)) d false || isMarkOf d (decode (drop at (now (book .entry))))) ⌝ }
 {
     if words::type_at(book, at) != MARK {
         return;
@@ -40,8 +41,8 @@ fn close_at(book: &[u32], at: usize, closed: &mut [bool])
 // The closed days of a book, once, so that no line searches for them again.
 pub fn close_days(book: &[u32], closed: &mut [bool])
     requires { ⌜ isBook (now book) ≡ true ⌝ }
-    requires { ⌜ length (now closed) ≡ tableDays ⌝ }
-    ensures { λ _. ⌜ ((d : ℕ) → d < tableDays → getD (now (closed .exit)) d false ≡ getD (now (closed .entry)) d false || isClosed d (entries (now (book .entry)))) ⌝ }
+    requires { ⌜ length (now closed) ≡ dayPlaces ⌝ }
+    ensures { λ _. ⌜ ((d : ℕ) → d < dayPlaces → getD (now (closed .exit)) d false ≡ getD (now (closed .entry)) d false || isClosed d (entries (now (book .entry)))) ⌝ }
 {
     let count = words::count_of(book) as usize;
     let mut i = 0;
@@ -64,25 +65,18 @@ pub fn block_cause(party: u32, day: u32) -> u32
     0
 }
 
-pub fn line_cause(
-    closed: &[bool],
-    party: u32,
-    day: u32,
-    entry_type: u32,
-    counterparty: u32,
-    amount: u64,
-) -> u32
-    requires { ⌜ length (now closed) ≡ tableDays ⌝ }
-    ensures { λ r. ⌜ r ≡ causeBy (now (closed .entry)) (line (keyOf party day «entry_type» counterparty) amount) ⌝ }
+pub fn line_cause(closed: &[bool], key: Key, amount: u64) -> u32
+    requires { ⌜ length (now closed) ≡ dayPlaces ⌝ }
+    ensures { λ r. ⌜ r ≡ causeBy (now (closed .entry)) (line (keyIn key) amount) ⌝ }
 {
-    let fault = words::fault_of(party, day, entry_type, counterparty, amount);
+    let fault = words::fault_of(key, amount);
     if fault != 0 {
         return fault;
     }
-    if !words::is_bilateral(entry_type, counterparty) {
+    if !words::is_bilateral(key) {
         return 0;
     }
-    if closed[day as usize] {
+    if closed[key.day as usize] {
         return DAY_CLOSED;
     }
     0
@@ -91,7 +85,7 @@ pub fn line_cause(
 // The cause of what the next head or line holds.
 pub fn cause_at(file: &[u8], closed: &[bool], c: Cursor) -> u32
     requires { ⌜ isMore (now file) c ≡ true ⌝ }
-    requires { ⌜ length (now closed) ≡ tableDays ⌝ }
+    requires { ⌜ length (now closed) ≡ dayPlaces ⌝ }
     ensures { λ r. ⌜ r ≡ firstCause (now (closed .entry)) (itemsAt (now (file .entry)) c) ⌝ }
 {
     let at = c.at;
@@ -102,15 +96,9 @@ pub fn cause_at(file: &[u8], closed: &[bool], c: Cursor) -> u32
         }
         return 0;
     }
-    let next = walk::line_at(file, at);
-    line_cause(
-        closed,
-        c.party,
-        c.day,
-        next.entry_type,
-        next.counterparty,
-        next.amount,
-    )
+    let next = walk::line_at(file, c);
+    let key = next.key;
+    line_cause(closed, key, next.amount)
 }
 
 fn lines_at(c: Cursor) -> u32
@@ -122,7 +110,7 @@ fn lines_at(c: Cursor) -> u32
 // The first cause in file order, and how many lines there are.
 pub fn scan(file: &[u8], closed: &[bool]) -> FileRead
     requires { ⌜ length (now file) ≤ mostBytes ⌝ }
-    requires { ⌜ length (now closed) ≡ tableDays ⌝ }
+    requires { ⌜ length (now closed) ≡ dayPlaces ⌝ }
     ensures { λ r. ⌜ r ≡ scanned (now (closed .entry)) (items (now (file .entry))) ⌝ }
 {
     let mut c = walk::begin();
@@ -148,8 +136,8 @@ pub fn scan(file: &[u8], closed: &[bool]) -> FileRead
 fn answer_with(book: &[u32], file: &[u8], closed: &mut [bool]) -> FileRead
     requires { ⌜ isBook (now book) ≡ true ⌝ }
     requires { ⌜ isFile (now file) ≡ true ⌝ }
-    requires { ⌜ length (now closed) ≡ tableDays ⌝ }
-    requires { ⌜ ((d : ℕ) → d < tableDays → getD (now closed) d false ≡ false) ⌝ }
+    requires { ⌜ length (now closed) ≡ dayPlaces ⌝ }
+    requires { ⌜ ((d : ℕ) → d < dayPlaces → getD (now closed) d false ≡ false) ⌝ }
     ensures { λ r. ⌜ r ≡ fileAnswer (now (book .entry)) (now (file .entry)) ⌝ }
 {
     close_days(book, closed);

@@ -21,20 +21,12 @@ fn store_at(book: &mut [u32], place: usize, file: &[u8], c: Cursor) -> usize
     ensures { λ r. ⌜ r ≡ place + 5 * linesAt c ⌝ }
     ensures { λ r. ⌜ now (book .exit) ≡ storedFrom (now (book .entry)) place (itemsAt (now (file .entry)) c) ⌝ }
 {
-    let at = c.at;
     if c.left == 0 {
         return place;
     }
-    let next = walk::line_at(file, at);
-    words::store_entry(
-        book,
-        place,
-        c.party,
-        c.day,
-        next.entry_type,
-        next.counterparty,
-        next.amount,
-    );
+    let next = walk::line_at(file, c);
+    let key = next.key;
+    words::store_entry(book, place, key, next.amount);
     place + 5
 }
 

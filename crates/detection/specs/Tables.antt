@@ -9,7 +9,7 @@ use lib.Dec.{eqb}
 use lib.ListN.{length, getD, set, take, drop, replicate}
 use Rattle.numbers.specs.Tests.{every}
 use Rattle.calendar.specs.Calendar.{monthOf}
-use Rattle.rules.specs.Entry.{Record, key, isCancelled, bilateral, partyOk, lastParty}
+use Rattle.rules.specs.Entry.{Record, key, isCancelled, bilateral, partyOk, lastParty, partyPlaces}
 use Rattle.rules.specs.Words.{entries, coefficientOf, toleranceOf}
 use Rattle.rules.specs.Balance.{dayAhead, balanceOf, isDetected, sumCount, sumPlace}
 use Rattle.rules.specs.Control.{Parties, detectedIn}
@@ -23,7 +23,7 @@ abbrev pub flagged : List Bool → Parties
 flagged flags p = getD flags p false
 
 unfoldable pub noFlags : List Bool
-noFlags = replicate 1000 false
+noFlags = replicate partyPlaces false
 
 -- cells of a party: its sums of the day, and B
 abbrev pub partyCells : ℕ

@@ -2,15 +2,14 @@
 ghost use mathlib.Core.Path.{_≡_};
 ghost use mathlib.Core.Bool.{true};
 ghost use Rattle.calendar.specs.Calendar.{monthOf};
-ghost use Rattle.rules.specs.Entry.{legal};
+ghost use Rattle.rules.specs.Entry.{legal, recordIn};
 ghost use Rattle.rules.specs.Words.{isBook, entries};
 ghost use Rattle.rules.specs.Control.{isRepeatedBuyer};
-ghost use Rattle.cells.specs.Cells.{recordRead};
 ghost use Rattle.detection.specs.Tables.{flagged, noFlags, noPairs, isOther, Paired, pairOf, pairMarked, pairsOf, buyerMarked, buyersOf};
 use crate::bits;
 use crate::bits::Bits;
 use crate::sums::Flags;
-use rules::EntryRead;
+use rules::Entry;
 use rules::layout::CANCELLED;
 use rules::layout::ENTRY_WORDS;
 use rules::layout::HEAD_WORDS;
@@ -23,28 +22,28 @@ fn period_of(day: u32) -> u32
 }
 
 // A cancelled entry of another day of the same billing period.
-fn is_other(e: EntryRead, day: u32, period: u32) -> bool
+fn is_other(e: Entry, day: u32, period: u32) -> bool
     requires { ⌜ period ≡ monthOf day ⌝ }
-    ensures { λ r. ⌜ r ≡ isOther day (recordRead e) ⌝ }
+    ensures { λ r. ⌜ r ≡ isOther day (recordIn e) ⌝ }
 {
-    if !((e.status == CANCELLED) & !(e.day == day)) {
+    if !((e.status == CANCELLED) & !(e.key.day == day)) {
         return false;
     }
-    period_of(e.day) == period
+    period_of(e.key.day) == period
 }
 
 // The bit of an entry's pair: 1,024 bits a seller, one a buyer.
-fn pair_of(e: EntryRead) -> usize
-    requires { ⌜ Paired (recordRead e) ⌝ }
-    ensures { λ r. ⌜ r ≡ pairOf (recordRead e) ⌝ }
+fn pair_of(e: Entry) -> usize
+    requires { ⌜ Paired (recordIn e) ⌝ }
+    ensures { λ r. ⌜ r ≡ pairOf (recordIn e) ⌝ }
 {
-    (1024 * e.party + e.counterparty) as usize
+    (1024 * e.key.party + e.key.counterparty) as usize
 }
 
-fn mark_pair(pairs: &mut Bits, e: EntryRead, day: u32, period: u32)
+fn mark_pair(pairs: &mut Bits, e: Entry, day: u32, period: u32)
     requires { ⌜ period ≡ monthOf day ⌝ }
-    requires { ⌜ legal (recordRead e) ≡ true ⌝ }
-    ensures { λ _. ⌜ now (pairs .exit) ≡ pairMarked day (recordRead e) (now (pairs .entry)) ⌝ }
+    requires { ⌜ legal (recordIn e) ≡ true ⌝ }
+    ensures { λ _. ⌜ now (pairs .exit) ≡ pairMarked day (recordIn e) (now (pairs .entry)) ⌝ }
 {
     if is_other(e, day, period) {
         let pair = pair_of(e);
@@ -69,16 +68,16 @@ fn mark_pairs(book: &[u32], day: u32, pairs: &mut Bits)
 }
 
 // Flags the buyer of a cancelled entry of the day whose pair is marked.
-fn mark_buyer(buyers: &mut Flags, e: EntryRead, day: u32, pairs: &Bits)
-    requires { ⌜ legal (recordRead e) ≡ true ⌝ }
-    ensures { λ _. ⌜ now (buyers .exit) ≡ buyerMarked day (now (pairs .entry)) (recordRead e) (now (buyers .entry)) ⌝ }
+fn mark_buyer(buyers: &mut Flags, e: Entry, day: u32, pairs: &Bits)
+    requires { ⌜ legal (recordIn e) ≡ true ⌝ }
+    ensures { λ _. ⌜ now (buyers .exit) ≡ buyerMarked day (now (pairs .entry)) (recordIn e) (now (buyers .entry)) ⌝ }
 {
-    if !((e.status == CANCELLED) & (e.day == day)) {
+    if !((e.status == CANCELLED) & (e.key.day == day)) {
         return;
     }
     let pair = pair_of(e);
     if bits::bit_at(pairs, pair) {
-        buyers[e.counterparty as usize] = true;
+        buyers[e.key.counterparty as usize] = true;
     }
 }
 

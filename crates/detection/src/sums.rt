@@ -4,25 +4,24 @@ ghost use mathlib.Core.Path.{_≡_};
 ghost use mathlib.Core.Bool.{true};
 ghost use Prim.Native.Nat.{_+_, _*_, _<_, _≤_};
 ghost use lib.ListN.{length, getD, take, drop};
-ghost use Rattle.rules.specs.Entry.{legal, lastParty};
+ghost use Rattle.rules.specs.Entry.{legal, lastParty, recordIn};
 ghost use Rattle.rules.specs.Words.{isBook, entries};
 ghost use Rattle.rules.specs.Balance.{dayAhead, balanceOf, isDetected, sumCount};
-ghost use Rattle.cells.specs.Cells.{addTo, added, blank, AtMost, recordRead};
+ghost use Rattle.cells.specs.Cells.{addTo, added, blank, AtMost};
 ghost use Rattle.tally.specs.Scan.{counts};
 ghost use Rattle.tally.specs.Bounded.{Bounded, mostSum};
 ghost use Rattle.detection.specs.Tables.{flagged, noFlags, partyCells, tableCells, dayCells, tableOf, tallyAt, boughtCell, Flaggable, detectedAmong, checked};
-use rules::EntryRead;
+use rules::Entry;
 use rules::SUMS;
 use rules::Tally;
+use rules::bounds::NUMBERS;
 use rules::layout::BILATERAL;
 use rules::layout::ENTRY_WORDS;
 use rules::layout::HEAD_WORDS;
 use rules::layout::STANDING;
 use tally::balances;
 
-// A flag for each number from 0 to 999; 0 is no party.
-pub const NUMBERS: usize = 1000;
-
+// A flag for each party's number; 0 is no party.
 pub type Flags = [bool; NUMBERS];
 
 // The cells of each number: a party's sums of the day, and B.
@@ -33,13 +32,13 @@ const CELLS: usize = PARTY_CELLS * NUMBERS;
 type Table = [u64; CELLS];
 
 // Whether an entry counts: standing, of the day, of a volume type, no export.
-fn counts(e: EntryRead, day: u32) -> bool
-    ensures { λ r. ⌜ r ≡ counts day (recordRead e .label) ⌝ }
+fn counts(e: Entry, day: u32) -> bool
+    ensures { λ r. ⌜ r ≡ counts day (recordIn e .label) ⌝ }
 {
     (e.status == STANDING)
-        & (e.day == day)
-        & tally::is_volume(e.entry_type)
-        & !((e.entry_type == BILATERAL) & (e.counterparty == 0))
+        & (e.key.day == day)
+        & words::is_volume(e.key.entry_type)
+        & !((e.key.entry_type == BILATERAL) & (e.key.counterparty == 0))
 }
 
 fn add_to(table: &mut Table, cell: usize, amount: u64)
@@ -50,20 +49,24 @@ fn add_to(table: &mut Table, cell: usize, amount: u64)
 }
 
 // An entry's amount goes to its party's sum and, of a bilateral sale, to its counterparty's B.
-fn add_entry(table: &mut Table, e: EntryRead, day: u32)
-    requires { ⌜ legal (recordRead e) ≡ true ⌝ }
+fn add_entry(table: &mut Table, e: Entry, day: u32)
+    requires { ⌜ legal (recordIn e) ≡ true ⌝ }
     requires { ⌜ AtMost mostSum (now table) ⌝ }
-    ensures { λ _. ⌜ now (table .exit) ≡ added (dayCells day) (recordRead e) (now (table .entry)) ⌝ }
+    ensures { λ _. ⌜ now (table .exit) ≡ added (dayCells day) (recordIn e) (now (table .entry)) ⌝ }
 {
     if !counts(e, day) {
         return;
     }
-    let place = tally::sum_place(e.entry_type);
-    add_to(table, PARTY_CELLS * (e.party as usize) + place, e.amount);
-    if e.entry_type == BILATERAL {
+    let place = tally::sum_place(e.key.entry_type);
+    add_to(
+        table,
+        PARTY_CELLS * (e.key.party as usize) + place,
+        e.amount,
+    );
+    if e.key.entry_type == BILATERAL {
         add_to(
             table,
-            PARTY_CELLS * (e.counterparty as usize) + SUMS,
+            PARTY_CELLS * (e.key.counterparty as usize) + SUMS,
             e.amount,
         );
     }

@@ -43,11 +43,11 @@ fn day_at(file: &[u8], c: Cursor, party: u32, days: &mut [bool])
         mark(days, head.day);
         return;
     }
-    let next = walk::line_at(file, at);
-    if !is_named(c.party, next.counterparty, party) {
+    let next = walk::line_at(file, c);
+    if !is_named(next.key.party, next.key.counterparty, party) {
         return;
     }
-    mark(days, c.day);
+    mark(days, next.key.day);
 }
 
 // Marks the days on which a file names the party.
@@ -74,12 +74,12 @@ fn party_at(file: &[u8], c: Cursor, parties: &mut [bool])
         mark(parties, head.party);
         return;
     }
-    let next = walk::line_at(file, at);
-    mark(parties, c.party);
-    if next.counterparty == 0 {
+    let next = walk::line_at(file, c);
+    mark(parties, next.key.party);
+    if next.key.counterparty == 0 {
         return;
     }
-    mark(parties, next.counterparty);
+    mark(parties, next.key.counterparty);
 }
 
 // Marks the parties that a file names, on whatever day.

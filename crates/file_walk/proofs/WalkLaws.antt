@@ -76,7 +76,7 @@ head-items bs at p d h =
     joined zero p d is = refl
     joined (suc n) p d is = refl
 
-line-items : (bs : List ℕ) (at n p d : ℕ) → at + 12 ≤ length bs → itemsFrom (suc n) p d (wordsOf (drop at bs)) ≡ lineItem (record { at = at; left = suc n; party = p; day = d }) (lineAt bs at) ∷ itemsFrom n p d (wordsOf (drop (at + 12) bs))
+line-items : (bs : List ℕ) (at n p d : ℕ) → at + 12 ≤ length bs → itemsFrom (suc n) p d (wordsOf (drop at bs)) ≡ lineItem (lineAt bs (record { at = at; left = suc n; party = p; day = d })) ∷ itemsFrom n p d (wordsOf (drop (at + 12) bs))
 unfolding itemsFrom lineAt
 line-items bs at n p d h =
     let e : at + 12 ≡ at + 8 + 4 = omega arith in
@@ -108,7 +108,7 @@ module _ (bs : List ℕ) (c : Cursor) where
         no-item zero n = absurd (n refl)
         no-item (suc k) n = refl
 
-  pub line-held : (c .left ≡ 0 → ⊥) → (l : Line) → l ≡ lineAt bs (c .at) → itemsAt bs c ≡ lineItem c l ∷ []
+  pub line-held : (c .left ≡ 0 → ⊥) → (l : Line) → l ≡ lineAt bs c → itemsAt bs c ≡ lineItem l ∷ []
   unfolding itemsAt
   line-held n l e = rw (ne-eqb (c .left) 0 n, ← e)
 

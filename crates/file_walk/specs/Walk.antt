@@ -4,8 +4,8 @@ use mathlib.Core.List.{List, [], _∷_}
 use Prim.Native.Nat.{ℕ, _+_, _-_, _*_, _/_, _%_}
 use lib.Dec.{eqb, leb}
 use lib.ListN.{length, drop}
-use Rattle.rules.specs.Entry.{keyOf}
-use Rattle.rules.specs.Words.{valueOf}
+use Rattle.rules.specs.Entry.{keyIn}
+use Rattle.rules.specs.Words.{types, lowAmounts, valueOf}
 use Rattle.rules.specs.DayFile.{Item, line, headItem, linesIn, partyIn, isHead, isLine, itemsFrom, wordsOf}
 use Rattle.word_bytes.specs.Coding.{wordAt}
 use Rattle.file_walk.specs.declared.Cursor.{Cursor}
@@ -39,17 +39,16 @@ pastLine c = record { at = c .at + 12; left = c .left - 1; party = c .party; day
 unfoldable pub pastStep : List ℕ → Cursor → Cursor
 pastStep bs c = cond (eqb (c .left) 0) (headAt bs (c .at)) (pastLine c)
 
--- the line at a byte
-unfoldable pub lineAt : List ℕ → ℕ → Line
-lineAt bs at =
+-- the line that a walk has come to
+unfoldable pub lineAt : List ℕ → Cursor → Line
+lineAt bs c =
     record {
-      «entry_type» = valueOf (wordAt bs at) % 256;
-      counterparty = valueOf (wordAt bs at) / 256;
-      amount = valueOf (wordAt bs (at + 4)) + valueOf (wordAt bs (at + 8)) * 268435456;
+      key = record { party = c .party; day = c .day; «entry_type» = valueOf (wordAt bs (c .at)) % types; counterparty = valueOf (wordAt bs (c .at)) / types };
+      amount = valueOf (wordAt bs (c .at + 4)) + valueOf (wordAt bs (c .at + 8)) * lowAmounts;
     }
 
-abbrev pub lineItem : Cursor → Line → Item
-lineItem c l = line (keyOf (c .party) (c .day) (l .«entry_type») (l .counterparty)) (l .amount)
+abbrev pub lineItem : Line → Item
+lineItem l = line (keyIn (l .key)) (l .amount)
 
 -- what the next head or line holds: a head holds an item if its block has no lines
 unfoldable pub itemsAt : List ℕ → Cursor → List Item
@@ -57,7 +56,7 @@ itemsAt bs c =
     cond
     (eqb (c .left) 0)
     (headItem (headAt bs (c .at) .left) (headAt bs (c .at) .party) (headAt bs (c .at) .day) [])
-    (lineItem c (lineAt bs (c .at)) ∷ [])
+    (lineItem (lineAt bs c) ∷ [])
 
 -- how a file's form stands past a head or a line: its kinds right, and no spare or status bit set. Where not even a first word is whole, a block may have ended
 abbrev pub headPast : Piece → Form

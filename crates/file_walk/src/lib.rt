@@ -1,4 +1,6 @@
 // The form of a day file's bytes: its reader and the walk of its heads and lines (document 01, 'Day file').
+use rules::Key;
+
 pub mod reader;
 pub mod walk;
 
@@ -10,9 +12,8 @@ pub struct Cursor {
     pub day: u32,
 }
 
-// The figures of one line.
+// One line: its key, with the party and day of its block, and its amount.
 pub struct Line {
-    pub entry_type: u32,
-    pub counterparty: u32,
+    pub key: Key,
     pub amount: u64,
 }

@@ -10,6 +10,7 @@ use crate::Line;
 use crate::reader;
 use crate::reader::Piece;
 use crate::reader::Reader;
+use rules::Key;
 use rules::layout::HIGH_AMOUNT;
 use rules::layout::KIND;
 use rules::layout::LOW_AMOUNT;
@@ -66,19 +67,25 @@ pub fn head_at(file: &[u8], at: usize) -> Cursor
     }
 }
 
-// The figures of the line at a byte.
-pub fn line_at(file: &[u8], at: usize) -> Line
-    requires { ⌜ at + 12 ≤ length (now file) ⌝ }
-    ensures { λ r. ⌜ r ≡ lineAt (now (file .entry)) at ⌝ }
+// The line that a walk has come to.
+pub fn line_at(file: &[u8], c: Cursor) -> Line
+    requires { ⌜ c .at + 12 ≤ length (now file) ⌝ }
+    ensures { λ r. ⌜ r ≡ lineAt (now (file .entry)) c ⌝ }
 {
+    let at = c.at;
     let line = reader::piece_from(file, at, true);
     let named = line.first % KIND;
     let low = line.second % KIND;
     let high = line.third % KIND;
+    let amount = low as u64 + high as u64 * LOW_AMOUNT;
     Line {
-        entry_type: named % TYPES,
-        counterparty: named / TYPES,
-        amount: low as u64 + high as u64 * LOW_AMOUNT,
+        key: Key {
+            party: c.party,
+            day: c.day,
+            entry_type: named % TYPES,
+            counterparty: named / TYPES,
+        },
+        amount,
     }
 }
 

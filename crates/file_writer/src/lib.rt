@@ -4,6 +4,7 @@ ghost use lib.ListN.{length};
 ghost use Rattle.file_writer.specs.Write.{headWords, lineWords, putCause, putWords};
 use rules::causes::BAD_FIGURE;
 use rules::causes::BAD_LENGTH;
+use rules::layout::AMOUNTS;
 use rules::layout::COUNTERPARTIES;
 use rules::layout::DAY_WORD;
 use rules::layout::FIGURES_WORD;
@@ -54,7 +55,7 @@ pub fn head_words(party: u32, day: u32, lines: u32) -> HeadWords
 pub fn line_words(entry_type: u32, counterparty: u32, amount: u64) -> LineWords
     ensures { λ r. ⌜ r ≡ lineWords «entry_type» counterparty amount ⌝ }
 {
-    let fits = (entry_type < TYPES) & (counterparty < COUNTERPARTIES) & (amount < 1099511627776);
+    let fits = (entry_type < TYPES) & (counterparty < COUNTERPARTIES) & (amount < AMOUNTS);
     if !fits {
         return LineWords {
             answer: BAD_FIGURE,

@@ -10,6 +10,7 @@ ghost use Rattle.rules.specs.Calls as calls;
 ghost use Rattle.word_bytes.specs.Bytes.{onWords, withWords, yesNo};
 use rules::Counted;
 use rules::EntryRead;
+use rules::Key;
 use rules::Posted;
 use rules::bounds::DEFAULT_COEFFICIENT;
 use rules::bounds::DEFAULT_TOLERANCE;
@@ -66,14 +67,13 @@ pub extern "C" fn fanzsoreb_post(
 {
     let mut words = [0u32; BOOK_WORDS];
     let n = word_bytes::decode(book, &mut words);
-    let posted = book::post(
-        &mut words[..n],
+    let key = Key {
         party,
         day,
         entry_type,
         counterparty,
-        amount,
-    );
+    };
+    let posted = book::post(&mut words[..n], key, amount);
     word_bytes::write_back(posted.answer, &words[..n], book);
     posted
 }

@@ -1,7 +1,8 @@
 // The month step on tables in lent bytes, little-endian (document 01, 'Month step').
 ghost use mathlib.Core.Path.{_≡_};
 ghost use lib.ListN.{length};
-ghost use Rattle.rules.specs.Month.{monthAnswer};
+ghost use Prim.Native.Nat.{_*_};
+ghost use Rattle.rules.specs.Month.{monthAnswer, mostHours, mostRows};
 ghost use Rattle.month_bytes.specs.Tables.{tablesIn, refusedMonth, monthOnBytes};
 ghost use Rattle.word_bytes.specs.Coding.{lengthsOk, Fitting, Within};
 use rules::Month;
@@ -117,7 +118,7 @@ fn step_hours(
     group: u32,
     volumes: &mut [i32],
 ) -> MonthAnswer
-    requires { ⌜ Within (now prices) (now imbalance) (now dm) 745 (length (now volumes)) 745 ⌝ }
+    requires { ⌜ Within (now prices) (now imbalance) (now dm) mostHours (length (now volumes)) mostHours ⌝ }
     ensures { λ r. ⌜ r ≡ monthAnswer (tablesIn (now (prices .entry)) (now (imbalance .entry)) rows (now (dm .entry)) group) ⌝ }
 {
     let mut words = [0u32; MOST_HOURS];
@@ -136,7 +137,7 @@ fn step_hours(
 
 // One group's figures, and the most groups'.
 fn step_small(prices: &[u8], imbalance: &[u8], rows: u32, dm: &[u8], group: u32) -> MonthAnswer
-    requires { ⌜ Within (now prices) (now imbalance) (now dm) 745 745 745 ⌝ }
+    requires { ⌜ Within (now prices) (now imbalance) (now dm) mostHours mostHours mostHours ⌝ }
     ensures { λ r. ⌜ r ≡ monthAnswer (tablesIn (now (prices .entry)) (now (imbalance .entry)) rows (now (dm .entry)) group) ⌝ }
 {
     let mut volumes = [0i32; MOST_HOURS];
@@ -144,7 +145,7 @@ fn step_small(prices: &[u8], imbalance: &[u8], rows: u32, dm: &[u8], group: u32)
 }
 
 fn step_large(prices: &[u8], imbalance: &[u8], rows: u32, dm: &[u8], group: u32) -> MonthAnswer
-    requires { ⌜ Within (now prices) (now imbalance) (now dm) 745 47680 745 ⌝ }
+    requires { ⌜ Within (now prices) (now imbalance) (now dm) mostHours (mostRows * mostHours) mostHours ⌝ }
     ensures { λ r. ⌜ r ≡ monthAnswer (tablesIn (now (prices .entry)) (now (imbalance .entry)) rows (now (dm .entry)) group) ⌝ }
 {
     let mut volumes = [0i32; MOST_FIGURES];

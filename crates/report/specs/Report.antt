@@ -4,6 +4,8 @@ use mathlib.Core.List.{List, [], _∷_, _++_}
 use Prim.Native.Nat.{ℕ, zero, suc, _+_}
 use lib.IntN.{ℤ}
 use lib.ListN.{replicate}
+use Rattle.rules.specs.Words.{bookWords}
+use Rattle.rules.specs.Entry.{lastParty, dayPlaces}
 use Rattle.numbers.specs.Causes.{ifDone}
 use Rattle.rules.specs.Refusals.{badFile}
 use Rattle.rules.specs.Book.{openWords, defaultCoefficient, defaultTolerance}
@@ -36,19 +38,16 @@ eachFrom text (suc n) k = text k ++ eachFrom text n (k + 1)
 
 -- the days 0 to 36,524 of a party, and the parties 1 to 999
 unfoldable pub partyLines : List ℕ → List ℕ → ℕ → List ℕ
-partyLines bs ws p = eachFrom (λ d. cond (fileNames bs p d) (lineOf ws p d) []) 36525 0
+partyLines bs ws p = eachFrom (λ d. cond (fileNames bs p d) (lineOf ws p d) []) dayPlaces 0
 
 unfoldable pub allLines : List ℕ → List ℕ → List ℕ
-allLines bs ws = eachFrom (partyLines bs ws) 999 1
+allLines bs ws = eachFrom (partyLines bs ws) lastParty 1
 
 -- the report on a file read into an opened book
 unfoldable pub reportInto : List ℕ → List ℕ → List ℕ
 reportInto ws bs = ifDone (causeOf ws (file bs)) (header ++ allLines bs (wordsAfter ws (file bs))) (refusal (causeOf ws (file bs)))
 
--- a default book of 3,072 entries
-abbrev pub bookWords : ℕ
-bookWords = 15363
-
+-- read into a default book of 3,072 entries
 unfoldable pub reportOn : List ℕ → List ℕ
 reportOn bs = reportInto (openWords (replicate bookWords 0) defaultCoefficient defaultTolerance) bs
 

@@ -4,6 +4,7 @@ ghost use mathlib.Core.Bool.{true, false, cond};
 ghost use mathlib.Core.List.{[], _∷_, _++_};
 ghost use Prim.Native.Nat.{ℕ, _+_, _≤_, _<_};
 ghost use lib.ListN.{length, getD};
+ghost use Rattle.rules.specs.Entry.{lastParty, dayPlaces, partyPlaces};
 ghost use Rattle.rules.specs.Words.{isBook};
 ghost use Rattle.rules.specs.Book.{openWords, defaultCoefficient, defaultTolerance};
 ghost use Rattle.file_names.specs.Names.{namesParty};
@@ -11,6 +12,7 @@ ghost use Rattle.text.specs.Text.{Wrote, Whole};
 ghost use Rattle.report.specs.Asked.{Asked};
 ghost use Rattle.report.specs.Report.{header, refusal, lineText, lineOf, eachFrom, partyLines, allLines, reportInto, reportOn, mostText};
 use rules::bounds::DAYS;
+use rules::bounds::NUMBERS;
 use rules::layout::BOOK_WORDS;
 use tally::balances;
 
@@ -59,10 +61,10 @@ fn put_named(book: &[u32], party: u32, day: u32, named: bool, out: &mut [u8], at
 // A line for each day that the table has.
 fn put_days(book: &[u32], party: u32, days: &[bool], out: &mut [u8], at: usize) -> usize
     requires { ⌜ at ≤ length (now out) ⌝ }
-    requires { ⌜ length (now days) ≡ 36525 ⌝ }
+    requires { ⌜ length (now days) ≡ dayPlaces ⌝ }
     requires { ⌜ isBook (now book) ≡ true ⌝ }
-    requires { ⌜ (1 ≤ party) × (party ≤ 999) ⌝ }
-    ensures { λ r. ⌜ Wrote (now (out .entry)) at (eachFrom (λ d. cond (getD (now (days .entry)) d false) (lineOf (now (book .entry)) party d) []) 36525 0) r (now (out .exit)) ⌝ }
+    requires { ⌜ (1 ≤ party) × (party ≤ lastParty) ⌝ }
+    ensures { λ r. ⌜ Wrote (now (out .entry)) at (eachFrom (λ d. cond (getD (now (days .entry)) d false) (lineOf (now (book .entry)) party d) []) dayPlaces 0) r (now (out .exit)) ⌝ }
 {
     let mut next = at;
     let mut day = 0;
@@ -83,10 +85,10 @@ fn put_party_with(
     at: usize,
 ) -> usize
     requires { ⌜ at ≤ length (now out) ⌝ }
-    requires { ⌜ length (now days) ≡ 36525 ⌝ }
-    requires { ⌜ ((d : ℕ) → d < 36525 → getD (now days) d false ≡ false) ⌝ }
+    requires { ⌜ length (now days) ≡ dayPlaces ⌝ }
+    requires { ⌜ ((d : ℕ) → d < dayPlaces → getD (now days) d false ≡ false) ⌝ }
     requires { ⌜ isBook (now book) ≡ true ⌝ }
-    requires { ⌜ (1 ≤ party) × (party ≤ 999) ⌝ }
+    requires { ⌜ (1 ≤ party) × (party ≤ lastParty) ⌝ }
     ensures { λ r. ⌜ Wrote (now (out .entry)) at (partyLines (now (file .entry)) (now (book .entry)) party) r (now (out .exit)) ⌝ }
 {
     file_names::mark_days(file, party, days);
@@ -98,7 +100,7 @@ fn put_party(book: &[u32], file: &[u8], party: u32, named: bool, out: &mut [u8],
     requires { ⌜ at ≤ length (now out) ⌝ }
     requires { ⌜ named ≡ namesParty (now file) party ⌝ }
     requires { ⌜ isBook (now book) ≡ true ⌝ }
-    requires { ⌜ (1 ≤ party) × (party ≤ 999) ⌝ }
+    requires { ⌜ (1 ≤ party) × (party ≤ lastParty) ⌝ }
     ensures { λ r. ⌜ Wrote (now (out .entry)) at (partyLines (now (file .entry)) (now (book .entry)) party) r (now (out .exit)) ⌝ }
 {
     if !named {
@@ -110,14 +112,14 @@ fn put_party(book: &[u32], file: &[u8], party: u32, named: bool, out: &mut [u8],
 
 fn put_parties(book: &[u32], file: &[u8], parties: &[bool], out: &mut [u8], at: usize) -> usize
     requires { ⌜ at ≤ length (now out) ⌝ }
-    requires { ⌜ length (now parties) ≡ 1000 ⌝ }
-    requires { ⌜ ((p : ℕ) → p < 1000 → getD (now parties) p false ≡ namesParty (now file) p) ⌝ }
+    requires { ⌜ length (now parties) ≡ partyPlaces ⌝ }
+    requires { ⌜ ((p : ℕ) → p < partyPlaces → getD (now parties) p false ≡ namesParty (now file) p) ⌝ }
     requires { ⌜ isBook (now book) ≡ true ⌝ }
     ensures { λ r. ⌜ Wrote (now (out .entry)) at (allLines (now (file .entry)) (now (book .entry))) r (now (out .exit)) ⌝ }
 {
     let mut next = at;
     let mut party = 1;
-    while party < 1000 {
+    while party < NUMBERS {
         next = put_party(book, file, party as u32, parties[party], out, next);
         party += 1;
     }
@@ -126,8 +128,8 @@ fn put_parties(book: &[u32], file: &[u8], parties: &[bool], out: &mut [u8], at: 
 
 // The header and all lines. `parties` is lent empty.
 fn put_table_with(book: &[u32], file: &[u8], parties: &mut [bool], out: &mut [u8]) -> usize
-    requires { ⌜ length (now parties) ≡ 1000 ⌝ }
-    requires { ⌜ ((p : ℕ) → p < 1000 → getD (now parties) p false ≡ false) ⌝ }
+    requires { ⌜ length (now parties) ≡ partyPlaces ⌝ }
+    requires { ⌜ ((p : ℕ) → p < partyPlaces → getD (now parties) p false ≡ false) ⌝ }
     requires { ⌜ isBook (now book) ≡ true ⌝ }
     ensures { λ r. ⌜ Wrote (now (out .entry)) 0 (header ++ allLines (now (file .entry)) (now (book .entry))) r (now (out .exit)) ⌝ }
 {
@@ -140,7 +142,7 @@ fn put_table(book: &[u32], file: &[u8], out: &mut [u8]) -> usize
     requires { ⌜ isBook (now book) ≡ true ⌝ }
     ensures { λ r. ⌜ Wrote (now (out .entry)) 0 (header ++ allLines (now (file .entry)) (now (book .entry))) r (now (out .exit)) ⌝ }
 {
-    let mut parties = [false; 1000];
+    let mut parties = [false; NUMBERS];
     put_table_with(book, file, &mut parties, out)
 }
 

@@ -3,7 +3,8 @@ use mathlib.Core.Path.{_≡_, refl, sym, ap, _∙_}
 use mathlib.Core.Logic.{inl, inr, _≢_}
 use mathlib.Core.Bool.{Bool, true, false, not, _&&_}
 use mathlib.Core.List.{List, [], _∷_, _++_, map}
-use Prim.Native.Nat.{ℕ, zero, suc, _+_, _≤_, _<_}
+use Prim.Native.Nat.{ℕ, zero, suc, _+_, _≤_, _<_, min}
+use native.Mathlib.Nat.{le-trans, le-add-right}
 use native.Mathlib.Omega.{arith}
 use lib.Dec.{leb, ltb}
 use lib.ListN.{length, getD, take, drop, set, length-take, length-set, take-append-drop}
@@ -13,7 +14,7 @@ use Rattle.numbers.specs.Causes.{unless, firstOf}
 use Rattle.numbers.proofs.TestLaws.{bool-cases}
 use Rattle.numbers.proofs.CauseLaws.{done-else, done-zero}
 use Rattle.rules.specs.Entry.{Key, Record, recordOf, key, noRecord, withStatus, fault, isMark, isStanding, standing, withdrawn, dayOk}
-use Rattle.rules.specs.Words.{word, frameOf, isBook, entries, countOf, coefficientOf, toleranceOf, roomIn, laid}
+use Rattle.rules.specs.Words.{word, frameOf, isBook, entries, countOf, coefficientOf, toleranceOf, roomIn, laid, bookWords}
 use Rattle.rules.specs.Book.{openCause, openWords, isClosed, shutTo, entryAt, postRefusal, standsAt, withdrawRefusal, withdrawnAt}
 use Rattle.rules.specs.Stores.{posted, restatused}
 use Rattle.rules.specs.Control.{controlRefusal}
@@ -22,8 +23,8 @@ use Rattle.rules.specs.Machine.{leavesOf, figuresOf}
 use Rattle.rules.specs.Calls.{Change, post, withdraw, control, file, Figures, noFigures, refusal, figuresOn, changed, onRecords, bookMachine, causeOf, figuresAt, wordsAfter}
 use Rattle.rules.proofs.WordLaws.{length-read, book-facts}
 use Rattle.rules.proofs.BookLaws.{open-limits, Stays, entry-at, posted-book, restatused-book}
-use Rattle.rules.proofs.LiftLaws.{SameView, cut-long, Passes, passes, same-cause, same-figures, refused-leaves, done-leaves, lifted-stays, cut-leaves}
-use Rattle.rules.proofs.ChangeLaws.{post-clear, withdraw-clear, control-clear, file-clear, changes-keep}
+use Rattle.rules.proofs.LiftLaws.{SameView, room-each, cut-long, cut-view, Passes, passes, SameFor, same-room, with-room, same-cause, same-figures, refused-leaves, done-leaves, lifted-stays, cut-leaves}
+use Rattle.rules.proofs.ChangeLaws.{post-clear, withdraw-clear, control-clear, file-clear, changes-keep, adds, changes-roomy}
 
 pub entries-count : (ws : List ℕ) → length (entries ws) ≡ countOf ws
 unfolding entries
@@ -61,28 +62,42 @@ module _ (ws : List ℕ) (c : Change) where
     unfolding causeOf wordsAfter
     done-stays = lifted-stays onRecords changes-keep ws c e
 
--- only the view of a book's words counts
-module _ {ws vs : List ℕ} (s : SameView ws vs) (c : Change) where
+-- only the view of a book's words counts, and the room for what a call adds
+module _ {ws vs : List ℕ} {c : Change} (s : SameFor onRecords c ws vs) where
   pub view-cause : causeOf ws c ≡ causeOf vs c
   unfolding causeOf
-  view-cause = same-cause onRecords s c
+  view-cause = same-cause onRecords s
 
   pub view-figures : figuresAt ws c ≡ figuresAt vs c
   unfolding figuresAt
-  view-figures = same-figures onRecords s noFigures c
+  view-figures = same-figures onRecords s noFigures
 
--- a call on words cut past a full book's leaves the same, and the words past the cut as they were
-pub cut-words : (m : ℕ) → 15363 ≤ m → (ws : List ℕ) (c : Change) → wordsAfter ws c ≡ wordsAfter (take m ws) c ++ drop m ws
+-- words cut past a full book's are seen alike by every call
+module _ (m : ℕ) (full : bookWords ≤ m) (ws : List ℕ) where
+  pub full-view : SameView (take m ws) ws
+  full-view = cut-view m (omega arith) ws (λ l. omega arith)
+
+  pub full-same : (c : Change) → SameFor onRecords c (take m ws) ws
+  full-same c = same-room onRecords full-view (rw (length-take m ws) (omega arith)) c
+
+-- and words cut at any length with room for what the call adds
+pub room-same : (m : ℕ) → 3 ≤ m → (ws : List ℕ) (c : Change) → countOf ws + adds c ≤ roomIn (length (take m ws)) → SameFor onRecords c (take m ws) ws
+room-same m head ws c room =
+    let r = room-each (countOf ws + adds c) m (length ws) (rw (length-take m ws) at room) in
+    with-room onRecords changes-roomy (cut-view m head ws (λ l. le-trans (le-add-right (countOf ws) (adds c)) (r .0))) c room (r .1)
+
+-- a call on cut words leaves the same, and the words past the cut as they were
+pub cut-words : (m : ℕ) (ws : List ℕ) (c : Change) → SameFor onRecords c (take m ws) ws → wordsAfter ws c ≡ wordsAfter (take m ws) c ++ drop m ws
 unfolding wordsAfter
-cut-words m full ws c = cut-leaves onRecords changes-keep m full ws c
+cut-words m ws c s = cut-leaves onRecords changes-keep m ws c s
 
 -- opening too sees no word past a full book's
-pub cut-open : (m : ℕ) → 15363 ≤ m → (ws : List ℕ) (R TM : ℕ) → openWords ws R TM ≡ openWords (take m ws) R TM ++ drop m ws
+pub cut-open : (m : ℕ) → bookWords ≤ m → (ws : List ℕ) (R TM : ℕ) → openWords ws R TM ≡ openWords (take m ws) R TM ++ drop m ws
 unfolding openWords openCause
 cut-open m full ws R TM = go (openCause (length ws) R TM) refl
   where
     same : openCause (length (take m ws)) R TM ≡ openCause (length ws) R TM
-    same = rw (cut-long m full ws)
+    same = rw (cut-long m (omega arith) ws)
 
     go : (k : ℕ) → openCause (length ws) R TM ≡ k → openWords ws R TM ≡ openWords (take m ws) R TM ++ drop m ws
     go zero e =

@@ -1,4 +1,5 @@
--- What the clear causes of each call say, and that each call that changes a book keeps its records legal and within the room. Assumes nothing.
+-- What the clear causes of each call say; that each call that changes a book keeps its records legal and within the room, and looks at the room
+-- for nothing but the entries that it adds. Assumes nothing.
 use mathlib.Core.Path.{_≡_, refl, sym, ap, _∙_}
 use mathlib.Core.Bool.{Bool, true, false, not, _&&_}
 use mathlib.Core.List.{List, [], _∷_, _++_, map}
@@ -6,7 +7,7 @@ use Prim.Native.Nat.{ℕ, _+_, _≤_, _<_}
 use native.Mathlib.Omega.{arith}
 use lib.Dec.{leb, ltb}
 use lib.ListN.{length, getD, set, length-append, length-set}
-use borrow.Author.Tests.{leb-true, ltb-true, not-true}
+use borrow.Author.Tests.{leb-true, ltb-true, le-leb, lt-ltb, not-true}
 use Rattle.numbers.specs.Tests.{all}
 use Rattle.numbers.specs.Causes.{unless, firstOf}
 use Rattle.numbers.proofs.TestLaws.{and-split, all-append, all-set, all-getD}
@@ -16,10 +17,10 @@ use Rattle.rules.specs.Words.{Frame}
 use Rattle.rules.specs.Book.{isClosed, shutTo, postRefusal, standsAt, withdrawRefusal, withdrawnAt}
 use Rattle.rules.specs.Control.{controlRefusal}
 use Rattle.rules.specs.DayFile.{isFile, items, itemCause, linesOf, fileRefusal}
-use Rattle.rules.specs.Calls.{Change, post, withdraw, control, file, refusal, changed, onRecords}
+use Rattle.rules.specs.Calls.{Change, post, withdraw, control, file, refusal, figuresOn, changed, onRecords}
 use Rattle.rules.proofs.BookLaws.{new-legal, restatus-legal, length-snoc}
 use Rattle.rules.proofs.CancelLaws.{controlled-length, controlled-legals, lines-legal}
-use Rattle.rules.proofs.LiftLaws.{Keeps}
+use Rattle.rules.proofs.LiftLaws.{Keeps, Roomy, framed}
 
 -- the causes of each call taken apart, once
 pub record PostClear (f : Frame) (rs : List Record) (k : Key) (a : ℕ) : Type 0 where
@@ -93,3 +94,34 @@ room f rs (file bs) h e = rw (length-append rs (linesOf (items bs))) (file-clear
 
 pub changes-keep : Keeps onRecords
 changes-keep = record { legals = legals; room = room }
+
+-- the entries that a done call adds; only for them does it look at the room
+unfoldable pub adds : Change → ℕ
+adds (post k a) = 1
+adds (withdraw n) = 0
+adds (control d) = 1
+adds (file bs) = length (linesOf (items bs))
+
+roomy-cause : (R TM n m : ℕ) (rs : List Record) (c : Change) → length rs + adds c ≤ n → length rs + adds c ≤ m → refusal (framed R TM n) rs c ≡ refusal (framed R TM m) rs c
+unfolding adds refusal postRefusal controlRefusal fileRefusal
+roomy-cause R TM n m rs (post k a) h l = rw (lt-ltb (length rs) n (omega arith), lt-ltb (length rs) m (omega arith))
+roomy-cause R TM n m rs (withdraw i) h l = refl
+roomy-cause R TM n m rs (control d) h l = rw (lt-ltb (length rs) n (omega arith), lt-ltb (length rs) m (omega arith))
+roomy-cause R TM n m rs (file bs) h l = rw (le-leb _ n h, le-leb _ m l)
+
+roomy-figures : (R TM n m : ℕ) (rs : List Record) (c : Change) → figuresOn (framed R TM n) rs c ≡ figuresOn (framed R TM m) rs c
+unfolding figuresOn
+roomy-figures R TM n m rs (post k a) = refl
+roomy-figures R TM n m rs (withdraw i) = refl
+roomy-figures R TM n m rs (control d) = refl
+roomy-figures R TM n m rs (file bs) = refl
+
+roomy-done : (R TM n m : ℕ) (rs : List Record) (c : Change) → changed (framed R TM n) rs c ≡ changed (framed R TM m) rs c
+unfolding changed
+roomy-done R TM n m rs (post k a) = refl
+roomy-done R TM n m rs (withdraw i) = refl
+roomy-done R TM n m rs (control d) = refl
+roomy-done R TM n m rs (file bs) = refl
+
+pub changes-roomy : Roomy onRecords adds
+changes-roomy = record { cause = roomy-cause; figures = roomy-figures; done = roomy-done }

@@ -56,10 +56,7 @@ module _ {ws vs : List ℕ} (s : SameView ws vs) where
   unfolding balanceAnswer partyDayCause isBook
   same-balance v p d =
       by-book (λ us. balanceAnswer v us p d) (λ us b. rw b)
-      (λ b c.
-      let R : coefficientOf ws ≡ coefficientOf vs = ap (λ f. f .coefficient) (s .frame c) in
-      let TM : toleranceOf ws ≡ toleranceOf vs = ap (λ f. f .tolerance) (s .frame c) in
-      rw (b, c, R, TM, s .holds c))
+      (λ b c. rw (b, c, s .coefficient c, s .tolerance c, s .holds c))
 
   pub same-collateral : (k : Case) → collateralAnswer ws k ≡ collateralAnswer vs k
   unfolding collateralAnswer collateralCause partyDayCause isBook

@@ -8,7 +8,7 @@ use Rattle.numbers.specs.Tests.{every, any}
 use Rattle.numbers.specs.Causes.{unless, firstOf}
 use Rattle.rules.specs.Refusals.{badFile, badParty, badDay, dayClosed, noRoom}
 use Rattle.rules.specs.Entry.{Key, Record, keyOf, recordOf, fault, standing, partyOk, dayOk}
-use Rattle.rules.specs.Words.{Frame, kindOf, valueOf}
+use Rattle.rules.specs.Words.{Frame, types, statusUnit, lowAmounts, kindOf, valueOf}
 use Rattle.rules.specs.Book.{shutTo}
 
 -- little-endian words; bytes that make no whole word are left out
@@ -22,12 +22,20 @@ wordsOf (a ∷ b ∷ c ∷ d ∷ bs) = (a + b * 256 + c * 65536 + d * 16777216) 
 abbrev pub mostBytes : ℕ
 mostBytes = 65536
 
--- a block begins with kind 1, party and number of lines (bits 16-27), and kind 2, the day
+-- the bits of a block's first word: party, 0-15; number of lines, 16-27
+abbrev pub parties : ℕ
+parties = 65536
+
+-- the bits of an amount in a line's kind 5 word, 0-11
+abbrev pub highAmounts : ℕ
+highAmounts = 4096
+
+-- a block begins with kind 1, party and number of lines, and kind 2, the day
 abbrev pub linesIn : ℕ → ℕ
-linesIn w = valueOf w / 65536
+linesIn w = valueOf w / parties
 
 abbrev pub partyIn : ℕ → ℕ
-partyIn w = valueOf w % 65536
+partyIn w = valueOf w % parties
 
 abbrev pub isHead : ℕ → ℕ → Bool
 isHead w x = eqb (kindOf w) 1 && eqb (kindOf x) 2
@@ -37,10 +45,10 @@ abbrev pub isLine : ℕ → ℕ → ℕ → Bool
 isLine w x y =
     every
     (eqb (kindOf w) 3
-    ∷ ltb (valueOf w) 16777216
+    ∷ ltb (valueOf w) statusUnit
     ∷ eqb (kindOf x) 4
     ∷ eqb (kindOf y) 5
-    ∷ ltb (valueOf y) 4096
+    ∷ ltb (valueOf y) highAmounts
     ∷ [])
 
 -- the words from here on, with n lines of a block to come, are lines and whole blocks
@@ -75,7 +83,7 @@ itemsFrom (suc n) p d [] = []
 itemsFrom (suc n) p d (w ∷ []) = []
 itemsFrom (suc n) p d (w ∷ x ∷ []) = []
 itemsFrom (suc n) p d (w ∷ x ∷ y ∷ ws) =
-    line (keyOf p d (valueOf w % 256) (valueOf w / 256)) (valueOf x + valueOf y * 268435456) ∷ itemsFrom n p d ws
+    line (keyOf p d (valueOf w % types) (valueOf w / types)) (valueOf x + valueOf y * lowAmounts) ∷ itemsFrom n p d ws
 
 unfoldable pub items : List ℕ → List Item
 items bs = itemsFrom 0 0 0 (wordsOf bs)

@@ -1,11 +1,12 @@
 -- An entry, and what a legal one is (01, 'Entry types').
 use mathlib.Core.Bool.{Bool, not, cond, _&&_, _||_}
 use mathlib.Core.List.{List, [], _∷_, map}
-use Prim.Native.Nat.{ℕ}
+use Prim.Native.Nat.{ℕ, _+_}
 use lib.Dec.{eqb, leb, ltb}
 use Rattle.numbers.specs.Tests.{every}
 use Rattle.numbers.specs.Causes.{unless, firstOf}
 use Rattle.rules.specs.Refusals.{badParty, badDay, badType, badCounterparty, badAmount}
+use Rattle.rules.specs.declared as code
 
 -- what an entry is for: the four figures that calls alike have in common
 pub record Key : Type 0 where
@@ -37,6 +38,13 @@ lastParty = 999
 
 abbrev pub lastDay : ℕ
 lastDay = 36524
+
+-- a place for each day, and for each number from 0 to the last party's
+abbrev pub dayPlaces : ℕ
+dayPlaces = lastDay + 1
+
+abbrev pub partyPlaces : ℕ
+partyPlaces = lastParty + 1
 
 abbrev pub mostVolume : ℕ
 mostVolume = 1000000000
@@ -148,3 +156,18 @@ statusOk l = leb (l .status) withdrawn || (eqb (l .status) cancelled && isBilate
 -- what an entry of a book is: it passes checks 3 to 7, or is a mark
 unfoldable pub legal : Record → Bool
 legal r = (eqb (fault (key r) (r .amount)) 0 && statusOk (r .label)) || markOk r
+
+-- a key and an entry as code carries them, by value
+abbrev pub keyIn : code.Key.Key → Key
+keyIn k = keyOf (k .party) (k .day) (k .«entry_type») (k .counterparty)
+
+abbrev pub recordIn : code.Entry.Entry → Record
+recordIn e = recordOf (keyIn (e .key)) (e .status) (e .amount)
+
+abbrev pub entryOf : Record → code.Entry.Entry
+entryOf r =
+    record {
+      key = record { party = key r .party; day = key r .day; «entry_type» = key r .type; counterparty = key r .counterparty };
+      status = r .label .status;
+      amount = r .amount;
+    }

@@ -4,7 +4,7 @@ use mathlib.Core.List.{List}
 use Prim.Native.Nat.{ℕ, _+_, _*_, _/_, _%_}
 use lib.ListN.{getD, set}
 use Rattle.rules.specs.Entry.{Key, standing}
-use Rattle.rules.specs.Words.{word, typeBits, countOf}
+use Rattle.rules.specs.Words.{statusUnit, lowAmounts, word, typeBits, countOf}
 use Rattle.rules.specs.Book.{placeOf}
 
 -- a standing entry's five words stored at a place
@@ -17,15 +17,15 @@ storedAt ws at k a =
     (set ws at (word 1 (k .party)))
     (at + 1) (word 2 (k .day)))
     (at + 2) (word 3 (typeBits (k .type) (k .counterparty) standing)))
-    (at + 3) (word 4 (a % 268435456)))
-    (at + 4) (word 5 (a / 268435456))
+    (at + 3) (word 4 (a % lowAmounts)))
+    (at + 4) (word 5 (a / lowAmounts))
 
 unfoldable pub posted : List ℕ → Key → ℕ → List ℕ
 posted ws k a = set (storedAt ws (placeOf (countOf ws)) k a) 0 (word 6 (countOf ws + 1))
 
 -- a kind 3 word of a standing entry, with another status
 abbrev pub raised : ℕ → ℕ → ℕ
-raised status w = w + status * 16777216
+raised status w = w + status * statusUnit
 
 -- entry n, standing until now, with another status
 unfoldable pub restatused : ℕ → List ℕ → ℕ → List ℕ

@@ -7,19 +7,36 @@ use lib.ListN.{length, getD, drop}
 use Rattle.numbers.specs.Tests.{every}
 use Rattle.rules.specs.Entry.{Key, Record, keyOf, recordOf, key, legal}
 
--- a word's top four bits of 32 are its kind
+-- a word has 32 bits; its top four, above the value, are its kind
+abbrev pub values : ℕ
+values = 268435456
+
+-- the bits of a kind 3 word: type, 0-7; counterparty, 8-23; status, from 24 on
+abbrev pub types : ℕ
+types = 256
+
+abbrev pub counterparties : ℕ
+counterparties = 65536
+
+abbrev pub statusUnit : ℕ
+statusUnit = 16777216
+
+-- an amount's low 28 bits; the next are the value of a kind 5 word
+abbrev pub lowAmounts : ℕ
+lowAmounts = 268435456
+
 abbrev pub word : ℕ → ℕ → ℕ
-word kind value = kind * 268435456 + value
+word kind value = kind * values + value
 
 abbrev pub kindOf : ℕ → ℕ
-kindOf w = w / 268435456
+kindOf w = w / values
 
 abbrev pub valueOf : ℕ → ℕ
-valueOf w = w % 268435456
+valueOf w = w % values
 
--- the value of a kind 3 word: type, bits 0-7; counterparty, bits 8-23; status, bits 24-25
+-- the value of a kind 3 word
 abbrev pub typeBits : ℕ → ℕ → ℕ → ℕ
-typeBits t c s = t + c * 256 + s * 16777216
+typeBits t c s = t + c * types + s * statusUnit
 
 -- the five words of an entry, kinds 1 to 5
 unfoldable pub encode : Record → List ℕ
@@ -27,8 +44,8 @@ encode r =
     word 1 (key r .party)
     ∷ word 2 (key r .day)
     ∷ word 3 (typeBits (key r .type) (key r .counterparty) (r .label .status))
-    ∷ word 4 (r .amount % 268435456)
-    ∷ word 5 (r .amount / 268435456)
+    ∷ word 4 (r .amount % lowAmounts)
+    ∷ word 5 (r .amount / lowAmounts)
     ∷ []
 
 abbrev pub valueAt : List ℕ → ℕ → ℕ
@@ -41,9 +58,9 @@ kindAt ws i kind = eqb (kindOf (getD ws i 0)) kind
 unfoldable pub decode : List ℕ → Record
 decode ws =
     recordOf
-    (keyOf (valueAt ws 0) (valueAt ws 1) (valueAt ws 2 % 256) (valueAt ws 2 / 256 % 65536))
-    (valueAt ws 2 / 16777216)
-    (valueAt ws 3 + valueAt ws 4 * 268435456)
+    (keyOf (valueAt ws 0) (valueAt ws 1) (valueAt ws 2 % types) (valueAt ws 2 / types % counterparties))
+    (valueAt ws 2 / statusUnit)
+    (valueAt ws 3 + valueAt ws 4 * lowAmounts)
 
 -- these words have their kinds and ranges
 unfoldable pub entryOk : List ℕ → Bool
@@ -70,6 +87,10 @@ toleranceOf ws = valueAt ws 2
 
 abbrev pub mostEntries : ℕ
 mostEntries = 3072
+
+-- the words of a full book, 3 + 5 × 3,072
+abbrev pub bookWords : ℕ
+bookWords = 15363
 
 abbrev pub mostCoefficient : ℕ
 mostCoefficient = 1000

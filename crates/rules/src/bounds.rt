@@ -5,7 +5,10 @@ pub const LAST_PARTY: u32 = 999;
 
 pub const LAST_DAY: u32 = 36524;
 
+// A place for each day, and for each number from 0 to the last party's.
 pub const DAYS: usize = 36525;
+
+pub const NUMBERS: usize = 1000;
 
 pub const MOST_VOLUME: u64 = 1000000000;
 

@@ -39,6 +39,9 @@ pub const LOW_AMOUNT: u64 = 268435456;
 
 pub const HIGH_AMOUNT: u32 = 4096;
 
+// An amount that a file's line can hold is below this.
+pub const AMOUNTS: u64 = LOW_AMOUNT * (HIGH_AMOUNT as u64);
+
 // The first word of a file's block: the party below this, then the number of lines, below that.
 pub const PARTIES: u32 = 65536;
 

@@ -22,7 +22,22 @@ pub struct Counted {
     pub count: u32,
 }
 
-// One entry of a book.
+// What an entry is for: the four figures that a post names beside its amount.
+pub struct Key {
+    pub party: u32,
+    pub day: u32,
+    pub entry_type: u32,
+    pub counterparty: u32,
+}
+
+// An entry of a book.
+pub struct Entry {
+    pub key: Key,
+    pub status: u32,
+    pub amount: u64,
+}
+
+// The answer to a call for one entry.
 #[repr(C)]
 pub struct EntryRead {
     pub answer: u32,

@@ -9,26 +9,25 @@ ghost use Rattle.rules.specs.Balance.{noTally, sumPlace};
 use rules::SUMS;
 use rules::Tally;
 use rules::TallyAnswer;
+use rules::layout::BILATERAL;
 use rules::layout::DAY_WORD;
 use rules::layout::ENTRY_WORDS;
+use rules::layout::FIGURES_WORD;
 use rules::layout::HEAD_WORDS;
 use rules::layout::PARTY_WORD;
+use rules::layout::STATUS;
+use rules::layout::TYPES;
+use rules::layout::WITHDRAWN;
 
 pub mod balances;
 
-// The kind 3 word of a standing type 6 entry with counterparty 0: an export. Each counterparty adds 256.
-const EXPORT: u32 = 0x30000006;
+// The kind 3 word of a standing type 6 entry with counterparty 0: an export. Each counterparty adds TYPES.
+const EXPORT: u32 = FIGURES_WORD + BILATERAL;
 
 // The first kind 3 word of status 1.
-const WITHDRAWN_WORD: u32 = 0x31000000;
+const WITHDRAWN_WORD: u32 = FIGURES_WORD + WITHDRAWN * STATUS;
 
-// Whether a type has a sum in the tally, and where its sum stands.
-pub fn is_volume(entry_type: u32) -> bool
-    ensures { λ r. ⌜ r ≡ isVolume «entry_type» ⌝ }
-{
-    (1 <= entry_type) & (entry_type <= 16)
-}
-
+// Where the sum of a volume type stands in the tally.
 pub fn sum_place(entry_type: u32) -> usize
     requires { ⌜ isVolume «entry_type» ≡ true ⌝ }
     ensures { λ r. ⌜ r ≡ sumPlace «entry_type» ⌝ }
@@ -45,7 +44,7 @@ fn tallied(mut t: Tally, book: &[u32], day: u32) -> TallyAnswer
     let count = words::count_of(book) as usize;
     let own = PARTY_WORD + t.party;
     let dated = DAY_WORD + day;
-    let sold = EXPORT + 256 * t.party;
+    let sold = EXPORT + TYPES * t.party;
     let mut bought: u64 = 0;
     let mut i: usize = 0;
     while i < count {
@@ -55,10 +54,10 @@ fn tallied(mut t: Tally, book: &[u32], day: u32) -> TallyAnswer
         if today
             & (book[at] == own)
             & (figures < WITHDRAWN_WORD)
-            & is_volume(figures % 256)
+            & words::is_volume(figures % TYPES)
             & !(figures == EXPORT)
         {
-            let place = sum_place(figures % 256);
+            let place = sum_place(figures % TYPES);
             t.sums[place] = t.sums[place] + words::amount_at(book, at);
         }
         if today & (figures == sold) {

@@ -3,13 +3,14 @@ use mathlib.Core.Path.{_≡_, refl, ap, ap₂, _∙_}
 use mathlib.Core.Logic.{_≢_}
 use mathlib.Core.Bool.{true}
 use mathlib.Core.List.{List, [], _++_}
+use native.Mathlib.Omega.{arith}
 use Prim.Native.Nat.{ℕ, _%_}
 use lib.IntN.{pos}
 use lib.ListN.{length, take, drop}
 use borrow.Author.Tests.{ne-eqb}
 use Rattle.numbers.specs.Causes.{ifDone}
 use Rattle.rules.specs.Refusals.{notABook}
-use Rattle.rules.specs.Words.{isBook}
+use Rattle.rules.specs.Words.{isBook, bookWords}
 use Rattle.rules.specs.DayFile.{wordsOf}
 use Rattle.rules.specs.Book.{openCause, openWords, countCause, countAnswer, noRead, readCause, readAnswer}
 use Rattle.rules.specs.Balance.{Volume, noTally, partyDayCause, tallyAnswer, balanceAnswer}
@@ -19,7 +20,7 @@ use Rattle.rules.specs.Calls.{Change, Figures, noFigures, causeOf, figuresAt, w
 use Rattle.rules.specs.declared.Case.{Case}
 use Rattle.rules.proofs.BookLaws.{open-refused}
 use Rattle.rules.proofs.LiftLaws.{cut-long}
-use Rattle.rules.proofs.CallLaws.{refused-words, view-cause, view-figures, cut-words, cut-open}
+use Rattle.rules.proofs.CallLaws.{refused-words, view-cause, view-figures, full-same, cut-words, cut-open}
 use Rattle.rules.proofs.ReadLaws.{same-count, same-entry, same-tally, same-balance, same-collateral}
 use Rattle.word_bytes.proofs.BytesLaws.{Bytes}
 use Rattle.word_bytes.specs.Bytes.{isWhole, onWords, withWords, yesNo}
@@ -46,7 +47,7 @@ module _ {bs ws : List ℕ} {n : ℕ} (r : Decoded bs ws n) where
 
   pub on-open : (R TM : ℕ) → isWhole bs ≡ true → openCause (length (take n ws)) R TM ≡ onWords bs (λ us. openCause (length us) R TM) notABook
   unfolding onWords openCause
-  on-open R TM w = rw (r .read, w, words-whole bs w, cut-long mostWords full (wordsOf bs))
+  on-open R TM w = rw (r .read, w, words-whole bs w, cut-long mostWords (omega (arith, full)) (wordsOf bs))
 
   pub on-count : countAnswer (take n ws) ≡ onWords bs countAnswer (record { answer = notABook; count = 0 })
   unfolding isBook countCause countAnswer
@@ -74,7 +75,7 @@ module _ {bs ws : List ℕ} {n : ℕ} (r : Decoded bs ws n) where
   on-change c answer =
       on-words r (λ us. answer (causeOf us c) (figuresAt us c)) (answer notABook noFigures)
       (ap₂ answer (none-cause c) (none-figures c))
-      (ap₂ answer (view-cause (words-cut bs) c) (view-figures (words-cut bs) c))
+      (let s = full-same mostWords full (wordsOf bs) c in ap₂ answer (view-cause s) (view-figures s))
 
 module _ (bs : List ℕ) where
   -- opening answers 1 where the bytes make no whole words, though no words are 11
@@ -104,14 +105,14 @@ module _ (bs : List ℕ) where
         leaves = λ ws. wordsAfter ws c;
         refused = λ ws h. refused-words ws c h;
         none = none-words c;
-        uncut = cut-words mostWords full (wordsOf bs) c;
+        uncut = cut-words mostWords (wordsOf bs) c (full-same mostWords full (wordsOf bs) c);
       }
 
 -- n words read, of which a call leaves vs, written back where its answer is 0: the bytes of the words that it leaves
 abbrev Written : List ℕ → List ℕ → List ℕ → ℕ → ℕ → (List ℕ → List ℕ) → Type 0
 Written bs ws vs n answer leaves = ifDone answer (overBytes (take n (vs ++ drop n ws)) bs) bs ≡ withWords bs leaves
 
-module _ {bs ws vs : List ℕ} {n answer : ℕ} (bytes : Bytes bs) (d : Decoded bs ws n) (array : length ws ≡ 15363) (kept : length vs ≡ length (take n ws)) where
+module _ {bs ws vs : List ℕ} {n answer : ℕ} (bytes : Bytes bs) (d : Decoded bs ws n) (array : length ws ≡ bookWords) (kept : length vs ≡ length (take n ws)) where
   pub open-bytes : (R TM : ℕ) → vs ≡ openWords (take n ws) R TM → answer ≡ openCause (length (take n ws)) R TM → Written bs ws vs n answer (λ us. openWords us R TM)
   open-bytes R TM = written-bytes (openCall bs R TM) bytes d array kept
 

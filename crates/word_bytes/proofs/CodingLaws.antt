@@ -11,16 +11,18 @@ use lib.ListN.{length, take, drop, length-append}
 use lib.Seq.{take-all, take-length, take-at, length-take-le}
 use mir.Val.{boolByte}
 use borrow.Author.Tests.{leb-true, leb-false, eqb-true}
+use Rattle.rules.specs.Words.{bookWords}
 use Rattle.numbers.specs.Causes.{ifDone}
 use Rattle.numbers.proofs.TestLaws.{bool-cases}
 use Rattle.rules.specs.DayFile.{wordsOf}
-use Rattle.rules.proofs.LiftLaws.{SameView, cut-view}
+use Rattle.rules.proofs.LiftLaws.{SameView}
+use Rattle.rules.proofs.CallLaws.{full-view}
 use Rattle.word_bytes.specs.Bytes.{bytesOf, isWhole, onWords, withWords, yesNo}
 use Rattle.word_bytes.specs.Coding.{overBytes, mostWords, wordsIn, countIn, Decoded}
 use Rattle.word_bytes.proofs.BytesLaws.{Bytes, length-words, bytes-back, bytes-append, bytes-past}
 
 -- how many words a book has
-pub count-most : (bs : List ℕ) → countIn bs ≤ 15363
+pub count-most : (bs : List ℕ) → countIn bs ≤ bookWords
 unfolding mostWords countIn
 count-most bs = elim (bool-cases (isWhole bs)) [ inl e ↦ rw e (omega arith) | inr e ↦ rw e (omega arith) ]
 
@@ -72,12 +74,12 @@ pub words-none : (bs : List ℕ) → isWhole bs ≡ false → wordsIn bs ≡ []
 unfolding wordsIn
 words-none bs w = rw w
 
-pub full : 15363 ≤ mostWords
+pub full : bookWords ≤ mostWords
 unfolding mostWords
 full = omega arith
 
 pub words-cut : (bs : List ℕ) → SameView (take mostWords (wordsOf bs)) (wordsOf bs)
-words-cut bs = cut-view mostWords full (wordsOf bs)
+words-cut bs = full-view mostWords full (wordsOf bs)
 
 -- on them a call answers as on the bytes: no words are no book
 pub on-words : {A : Type 0} {bs ws : List ℕ} {n : ℕ} → Decoded bs ws n → (f : List ℕ → A) (refused : A) → f [] ≡ refused → f (take mostWords (wordsOf bs)) ≡ f (wordsOf bs) → f (take n ws) ≡ onWords bs f refused
@@ -125,11 +127,11 @@ written zero ws vs bs e h = refl
 written (suc c) ws vs bs e h = sym (ap (λ us. overBytes us bs) (h (suc-ne-zero c)) ∙ e)
 
 -- n words read, of which the call leaves vs, written back where the answer is 0
-pub written-bytes : {bs ws vs : List ℕ} {n answer : ℕ} (f : Call bs) → Bytes bs → Decoded bs ws n → length ws ≡ 15363 → length vs ≡ length (take n ws) → vs ≡ f .leaves (take n ws) → answer ≡ f .cause (take n ws) → ifDone answer (overBytes (take n (vs ++ drop n ws)) bs) bs ≡ withWords bs (f .leaves)
+pub written-bytes : {bs ws vs : List ℕ} {n answer : ℕ} (f : Call bs) → Bytes bs → Decoded bs ws n → length ws ≡ bookWords → length vs ≡ length (take n ws) → vs ≡ f .leaves (take n ws) → answer ≡ f .cause (take n ws) → ifDone answer (overBytes (take n (vs ++ drop n ws)) bs) bs ≡ withWords bs (f .leaves)
 written-bytes {bs} {ws} {vs} {n} {answer} f bytes d array kept left answered =
     let read = d .read in
     let a : answer ≡ f .cause (wordsIn bs) = answered ∙ ap (f .cause) read in
-    let v : take n (vs ++ drop n ws) ≡ f .leaves (wordsIn bs) = take-at vs (drop n ws) n (kept ∙ sym (taken n 15363 ws (d .most) array)) ∙ left ∙ ap (f .leaves) read in
+    let v : take n (vs ++ drop n ws) ≡ f .leaves (wordsIn bs) = take-at vs (drop n ws) n (kept ∙ sym (taken n bookWords ws (d .most) array)) ∙ left ∙ ap (f .leaves) read in
     rw (a, v) (written (f .cause (wordsIn bs)) (wordsIn bs) (f .leaves (wordsIn bs)) bs (same-bytes bs bytes) (f .refused (wordsIn bs)))
     ∙ with-words bs f bytes (ap length (sym (left ∙ ap (f .leaves) read)) ∙ kept ∙ ap length read)
 

@@ -5,6 +5,7 @@ use mathlib.Core.List.{List, [], _∷_, _++_}
 use Prim.Native.Nat.{ℕ, _+_, _*_, _/_, _%_, _≤_, min}
 use lib.Dec.{eqb, leb}
 use lib.ListN.{length, getD, take, drop}
+use Rattle.rules.specs.Words.{bookWords}
 use Rattle.numbers.specs.Tests.{every}
 use Rattle.rules.specs.Month.{mostHours}
 use Rattle.rules.specs.DayFile.{wordsOf}
@@ -19,9 +20,9 @@ wordAt bs at =
 unfoldable pub overBytes : List ℕ → List ℕ → List ℕ
 overBytes ws bs = bytesOf ws ++ drop (4 * length ws) bs
 
--- the words of a full book, 3 + 5 × 3,072: no call uses words after them (01, 'The words')
+-- no call uses words after those of a full book (01, 'The words')
 unfoldable pub mostWords : ℕ
-mostWords = 15363
+mostWords = bookWords
 
 -- the words that are read: none where the bytes make no whole words, and no more than a full book's
 unfoldable pub wordsIn : List ℕ → List ℕ
@@ -32,7 +33,7 @@ countIn bs = cond (isWhole bs) (min mostWords (length bs / 4)) 0
 
 -- the first n of an array's words are the book's
 pub record Decoded (bs ws : List ℕ) (n : ℕ) : Type 0 where
-  pub most : n ≤ 15363
+  pub most : n ≤ bookWords
   pub lent : 4 * n ≤ length bs
   pub read : take n ws ≡ wordsIn bs
 

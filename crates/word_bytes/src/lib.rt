@@ -3,6 +3,7 @@ ghost use mathlib.Core.Path.{_≡_};
 ghost use Prim.Native.Nat.{_+_, _*_, _≤_};
 ghost use mathlib.Core.List.{[], _∷_, _++_};
 ghost use lib.ListN.{length, take, drop};
+ghost use Rattle.rules.specs.Words.{bookWords};
 ghost use Rattle.numbers.specs.Causes.{ifDone};
 ghost use Rattle.rules.specs.DayFile.{wordsOf};
 ghost use Rattle.word_bytes.specs.Bytes.{bytesOf};
@@ -73,7 +74,7 @@ fn count_words(bytes: &[u8]) -> usize
 
 // The words of a book into an array, and their number.
 pub fn decode(bytes: &[u8], words: &mut [u32]) -> usize
-    requires { ⌜ length (now words) ≡ 15363 ⌝ }
+    requires { ⌜ length (now words) ≡ bookWords ⌝ }
     ensures { λ r. ⌜ Decoded (now (bytes .entry)) (now (words .exit)) r ⌝ }
 {
     let n = count_words(bytes);

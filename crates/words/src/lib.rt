@@ -2,15 +2,16 @@
 ghost use mathlib.Core.Path.{_≡_};
 ghost use mathlib.Core.Bool.{true};
 ghost use mathlib.Core.List.{[], _∷_};
-ghost use Prim.Native.Nat.{_+_, _*_, _≤_};
+ghost use Prim.Native.Nat.{_+_, _*_, _<_, _≤_};
 ghost use lib.Dec.{leb};
 ghost use lib.ListN.{length, drop};
-ghost use Rattle.rules.specs.Entry.{keyOf, recordOf, key, partyOk, dayOk, isType, isMoney, isBilateral, counterpartyOk, amountLimit, fault, statusOk, markOk, legal, standing};
+ghost use Rattle.rules.specs.Entry.{keyIn, recordIn, entryOf, recordOf, key, partyOk, dayOk, isType, isVolume, isMoney, isBilateral, counterpartyOk, amountLimit, fault, statusOk, markOk, legal, standing};
 ghost use Rattle.words.specs.Parts.{figuresOk, kept};
 ghost use Rattle.rules.specs.Words.{decode, entryOk, entriesOk, roomIn, countOf, coefficientOf, toleranceOf, isBook, entries};
-ghost use Rattle.rules.specs.Book.{isMarkOf, isClosed, shutTo, placeOf, readOf};
-ghost use Rattle.rules.specs.Stores.{storedAt, restatused};
-use rules::EntryRead;
+ghost use Rattle.rules.specs.Book.{isMarkOf, isClosed, shutTo, placeOf};
+ghost use Rattle.rules.specs.Stores.{storedAt, posted, restatused};
+use rules::Entry;
+use rules::Key;
 use rules::bounds::LAST_DAY;
 use rules::bounds::LAST_PARTY;
 use rules::bounds::MOST_ENTRIES;
@@ -25,6 +26,7 @@ use rules::causes::DAY_CLOSED;
 use rules::causes::NO_ENTRY;
 use rules::layout::BILATERAL;
 use rules::layout::CANCELLED;
+use rules::layout::COUNT_WORD;
 use rules::layout::COUNTERPARTIES;
 use rules::layout::DAY_WORD;
 use rules::layout::ENTRY_WORDS;
@@ -60,19 +62,25 @@ pub fn is_money(entry_type: u32) -> bool
     (17 <= entry_type) & (entry_type <= 20)
 }
 
+pub fn is_volume(entry_type: u32) -> bool
+    ensures { λ r. ⌜ r ≡ isVolume «entry_type» ⌝ }
+{
+    (1 <= entry_type) & (entry_type <= 16)
+}
+
 pub fn is_type(entry_type: u32) -> bool
     ensures { λ r. ⌜ r ≡ isType «entry_type» ⌝ }
 {
-    ((1 <= entry_type) & (entry_type <= 16)) | is_money(entry_type)
+    is_volume(entry_type) | is_money(entry_type)
 }
 
-pub fn counterparty_ok(party: u32, entry_type: u32, counterparty: u32) -> bool
-    ensures { λ r. ⌜ r ≡ counterpartyOk (keyOf party 0 «entry_type» counterparty) ⌝ }
+pub fn counterparty_ok(key: Key) -> bool
+    ensures { λ r. ⌜ r ≡ counterpartyOk (keyIn key) ⌝ }
 {
-    if entry_type == BILATERAL {
-        (counterparty <= LAST_PARTY) & !(counterparty == party)
+    if key.entry_type == BILATERAL {
+        (key.counterparty <= LAST_PARTY) & !(key.counterparty == key.party)
     } else {
-        counterparty == 0
+        key.counterparty == 0
     }
 }
 
@@ -87,67 +95,79 @@ pub fn amount_ok(entry_type: u32, amount: u64) -> bool
 }
 
 // The lowest cause of 3 to 7 that holds, or 0.
-pub fn fault_of(party: u32, day: u32, entry_type: u32, counterparty: u32, amount: u64) -> u32
-    ensures { λ r. ⌜ r ≡ fault (keyOf party day «entry_type» counterparty) amount ⌝ }
+pub fn fault_of(key: Key, amount: u64) -> u32
+    ensures { λ r. ⌜ r ≡ fault (keyIn key) amount ⌝ }
 {
-    if !party_ok(party) {
+    if !party_ok(key.party) {
         return BAD_PARTY;
     }
-    if !day_ok(day) {
+    if !day_ok(key.day) {
         return BAD_DAY;
     }
-    if !is_type(entry_type) {
+    if !is_type(key.entry_type) {
         return BAD_TYPE;
     }
-    if !counterparty_ok(party, entry_type, counterparty) {
+    if !counterparty_ok(key) {
         return BAD_COUNTERPARTY;
     }
-    if !amount_ok(entry_type, amount) {
+    if !amount_ok(key.entry_type, amount) {
         return BAD_AMOUNT;
     }
     0
 }
 
 // A bilateral sale with a counterparty above 0.
-pub fn is_bilateral(entry_type: u32, counterparty: u32) -> bool
-    ensures { λ r. ⌜ r ≡ isBilateral (keyOf 0 0 «entry_type» counterparty) ⌝ }
+pub fn is_bilateral(key: Key) -> bool
+    ensures { λ r. ⌜ r ≡ isBilateral (keyIn key) ⌝ }
 {
-    (entry_type == BILATERAL) & (0 < counterparty)
+    (key.entry_type == BILATERAL) & (0 < key.counterparty)
 }
 
 // Status 2 stands only on type 6 with a counterparty above 0 (01, 'The words').
-pub fn status_ok(entry_type: u32, counterparty: u32, status: u32) -> bool
-    ensures { λ r. ⌜ r ≡ statusOk (recordOf (keyOf 0 0 «entry_type» counterparty) status 0 .label) ⌝ }
+pub fn status_ok(key: Key, status: u32) -> bool
+    ensures { λ r. ⌜ r ≡ statusOk (recordOf (keyIn key) status 0 .label) ⌝ }
 {
-    (status <= WITHDRAWN) | ((status == CANCELLED) & is_bilateral(entry_type, counterparty))
+    (status <= WITHDRAWN) | ((status == CANCELLED) & is_bilateral(key))
 }
 
-fn mark_ok(
-    party: u32,
-    day: u32,
-    entry_type: u32,
-    counterparty: u32,
-    status: u32,
-    amount: u64,
-) -> bool
-    ensures { λ r. ⌜ r ≡ markOk (recordOf (keyOf party day «entry_type» counterparty) status amount) ⌝ }
+fn mark_ok(e: Entry) -> bool
+    ensures { λ r. ⌜ r ≡ markOk (recordIn e) ⌝ }
 {
-    (entry_type == MARK)
-        & (day <= LAST_DAY)
-        & (party == 0)
-        & (counterparty == 0)
-        & (amount == 0)
-        & (status == STANDING)
+    (e.key.entry_type == MARK)
+        & (e.key.day <= LAST_DAY)
+        & (e.key.party == 0)
+        & (e.key.counterparty == 0)
+        & (e.amount == 0)
+        & (e.status == STANDING)
 }
 
 // Checks 5 to 7 and the status, where party and day are in range.
-fn figures_ok(party: u32, entry_type: u32, counterparty: u32, status: u32, amount: u64) -> bool
-    ensures { λ r. ⌜ r ≡ figuresOk (recordOf (keyOf party 0 «entry_type» counterparty) status amount) ⌝ }
+fn figures_ok(e: Entry) -> bool
+    ensures { λ r. ⌜ r ≡ figuresOk (recordIn e) ⌝ }
 {
-    is_type(entry_type)
-        & counterparty_ok(party, entry_type, counterparty)
-        & amount_ok(entry_type, amount)
-        & status_ok(entry_type, counterparty, status)
+    let key = e.key;
+    is_type(key.entry_type)
+        & counterparty_ok(key)
+        & amount_ok(key.entry_type, e.amount)
+        & status_ok(key, e.status)
+}
+
+// The entry that five words hold.
+fn entry_of(party: u32, day: u32, figures: u32, low: u32, high: u32) -> Entry
+    ensures { λ r. ⌜ r ≡ entryOf (decode (party ∷ day ∷ figures ∷ low ∷ high ∷ [])) ⌝ }
+{
+    let named = figures % KIND;
+    let amount = (low % KIND) as u64 + (high % KIND) as u64 * LOW_AMOUNT;
+    Entry {
+        key: Key {
+            party: party % KIND,
+            day: day % KIND,
+            entry_type: named % TYPES,
+            counterparty: named / TYPES % COUNTERPARTIES,
+        },
+        status: named / STATUS,
+        amount,
+    }
 }
 
 // The five words of an entry. Party and day are held to kind and range in one comparison of the whole word,
@@ -161,26 +181,14 @@ fn words_ok(party: u32, day: u32, figures: u32, low: u32, high: u32) -> bool
     if !((figures / KIND == 3) & (low / KIND == 4) & (high / KIND == 5)) {
         return false;
     }
-    let named = figures % KIND;
-    let entry_type = named % TYPES;
-    let counterparty = named / TYPES % COUNTERPARTIES;
-    let status = named / STATUS;
-    let amount = (low % KIND) as u64 + (high % KIND) as u64 * LOW_AMOUNT;
+    let e = entry_of(party, day, figures, low, high);
     if !((PARTY_WORD < party) & (party <= PARTY_WORD + LAST_PARTY)) {
-        return (party / KIND == 1)
-            & mark_ok(
-                party % KIND,
-                day % KIND,
-                entry_type,
-                counterparty,
-                status,
-                amount,
-            );
+        return (party / KIND == 1) & mark_ok(e);
     }
-    if entry_type == BILATERAL {
-        return figures_ok(party % KIND, entry_type, counterparty, status, amount);
+    if e.key.entry_type == BILATERAL {
+        return figures_ok(e);
     }
-    figures_ok(party % KIND, entry_type, counterparty, status, amount)
+    figures_ok(e)
 }
 
 pub fn entry_ok(book: &[u32], at: usize) -> bool
@@ -276,13 +284,6 @@ pub fn type_at(book: &[u32], at: usize) -> u32
     book[at + 2] % KIND % TYPES
 }
 
-pub fn counterparty_at(book: &[u32], at: usize) -> u32
-    requires { ⌜ at + 5 ≤ length (now book) ⌝ }
-    ensures { λ r. ⌜ r ≡ key (decode (drop at (now (book .entry)))) .counterparty ⌝ }
-{
-    book[at + 2] % KIND / TYPES % COUNTERPARTIES
-}
-
 pub fn status_at(book: &[u32], at: usize) -> u32
     requires { ⌜ at + 5 ≤ length (now book) ⌝ }
     ensures { λ r. ⌜ r ≡ decode (drop at (now (book .entry))) .label .status ⌝ }
@@ -321,35 +322,39 @@ pub fn is_closed(book: &[u32], day: u32) -> bool
 }
 
 // Whether the day is closed to an entry. It is looked up for a bilateral sale only.
-pub fn shut_to(book: &[u32], day: u32, entry_type: u32, counterparty: u32) -> bool
+pub fn shut_to(book: &[u32], key: Key) -> bool
     requires { ⌜ isBook (now book) ≡ true ⌝ }
-    ensures { λ r. ⌜ r ≡ shutTo (keyOf 0 day «entry_type» counterparty) (entries (now (book .entry))) ⌝ }
+    ensures { λ r. ⌜ r ≡ shutTo (keyIn key) (entries (now (book .entry))) ⌝ }
 {
-    if !is_bilateral(entry_type, counterparty) {
+    if !is_bilateral(key) {
         return false;
     }
-    is_closed(book, day)
+    is_closed(book, key.day)
 }
 
 // Stores the five words of a standing entry at a place.
-pub fn store_entry(
-    book: &mut [u32],
-    at: usize,
-    party: u32,
-    day: u32,
-    entry_type: u32,
-    counterparty: u32,
-    amount: u64,
-)
+pub fn store_entry(book: &mut [u32], at: usize, key: Key, amount: u64)
     requires { ⌜ at + 5 ≤ length (now book) ⌝ }
-    requires { ⌜ legal (recordOf (keyOf party day «entry_type» counterparty) standing amount) ≡ true ⌝ }
-    ensures { λ _. ⌜ now (book .exit) ≡ storedAt (now (book .entry)) at (keyOf party day «entry_type» counterparty) amount ⌝ }
+    requires { ⌜ legal (recordOf (keyIn key) standing amount) ≡ true ⌝ }
+    ensures { λ _. ⌜ now (book .exit) ≡ storedAt (now (book .entry)) at (keyIn key) amount ⌝ }
 {
-    book[at] = PARTY_WORD + party;
-    book[at + 1] = DAY_WORD + day;
-    book[at + 2] = FIGURES_WORD + (entry_type + counterparty * TYPES);
+    book[at] = PARTY_WORD + key.party;
+    book[at + 1] = DAY_WORD + key.day;
+    book[at + 2] = FIGURES_WORD + (key.entry_type + key.counterparty * TYPES);
     book[at + 3] = LOW_WORD + (amount % LOW_AMOUNT) as u32;
     book[at + 4] = HIGH_WORD + (amount / LOW_AMOUNT) as u32;
+}
+
+// Appends a standing entry: its words at the next place, and last the count.
+pub fn append(book: &mut [u32], key: Key, amount: u64)
+    requires { ⌜ countOf (now book) < roomIn (length (now book)) ⌝ }
+    requires { ⌜ legal (recordOf (keyIn key) standing amount) ≡ true ⌝ }
+    ensures { λ _. ⌜ now (book .exit) ≡ posted (now (book .entry)) (keyIn key) amount ⌝ }
+{
+    let count = count_of(book);
+    let at = place_of(count);
+    store_entry(book, at, key, amount);
+    book[0] = COUNT_WORD + (count + 1);
 }
 
 // Gives a standing entry another status; the rest of its kind 3 word stays.
@@ -363,39 +368,36 @@ pub fn set_status(book: &mut [u32], number: usize, status: u32)
     book[at] = book[at] + status * STATUS;
 }
 
+// The entry at a place.
+pub fn read_at(book: &[u32], at: usize) -> Entry
+    requires { ⌜ at + 5 ≤ length (now book) ⌝ }
+    ensures { λ r. ⌜ r ≡ entryOf (decode (drop at (now (book .entry)))) ⌝ }
+{
+    entry_of(
+        book[at],
+        book[at + 1],
+        book[at + 2],
+        book[at + 3],
+        book[at + 4],
+    )
+}
+
 // Why the entry at a place cannot be withdrawn, or 0.
 pub fn kept_at(book: &[u32], at: usize) -> u32
     requires { ⌜ isBook (now book) ≡ true ⌝ }
     requires { ⌜ at + 5 ≤ length (now book) ⌝ }
     ensures { λ r. ⌜ r ≡ kept (decode (drop at (now (book .entry)))) (entries (now (book .entry))) ⌝ }
 {
-    if status_at(book, at) != STANDING {
+    let e = read_at(book, at);
+    if e.status != STANDING {
         return NO_ENTRY;
     }
-    let entry_type = type_at(book, at);
-    if entry_type == MARK {
+    if e.key.entry_type == MARK {
         return NO_ENTRY;
     }
-    let day = day_at(book, at);
-    let counterparty = counterparty_at(book, at);
-    if shut_to(book, day, entry_type, counterparty) {
+    let key = e.key;
+    if shut_to(book, key) {
         return DAY_CLOSED;
     }
     0
-}
-
-// The figures of the entry at a place, with answer 0.
-pub fn read_at(book: &[u32], at: usize) -> EntryRead
-    requires { ⌜ at + 5 ≤ length (now book) ⌝ }
-    ensures { λ r. ⌜ r ≡ readOf (decode (drop at (now (book .entry)))) ⌝ }
-{
-    EntryRead {
-        answer: 0,
-        party: party_at(book, at),
-        day: day_at(book, at),
-        entry_type: type_at(book, at),
-        counterparty: counterparty_at(book, at),
-        status: status_at(book, at),
-        amount: amount_at(book, at),
-    }
 }

@@ -1,12 +1,11 @@
 -- `file_names::party_at` meets its contract. Assumes nothing.
 use mathlib.Core.Path.{_≡_, _∙_, ap}
-use mathlib.Core.Bool.{false, or-false}
+use mathlib.Core.Bool.{or-false}
 use Prim.Native.Nat.{ℕ}
 use lib.Dec.{eqb}
-use lib.ListN.{getD}
 use Rattle.numbers.specs.Tests.{any}
 use Rattle.rules.specs.DayFile.{emptyBlock}
-use Rattle.file_walk.specs.Walk.{itemsAt, lineItem}
+use Rattle.file_walk.specs.Walk.{itemsAt}
 use Rattle.file_names.specs.Names.{itemHas, isNamed}
 use Rattle.file_walk.proofs.WalkLaws.{head-whole, line-whole, block-held, nothing-held, line-held}
 use Rattle.file_names.proofs.NameLaws.{marked, both-marked, of-none, of-one}
@@ -21,11 +20,9 @@ start k = k .before .before .before
 abbrev own : tie.After-struct-known3 → tie.After-mark2
 own k = k .before .before .before
 
-line-has : (t : tie.After-line-at) (p : ℕ) → let a = start (t .before .before) .args in any (itemHas p) (itemsAt (a .file .now) (a .c)) ≡ isNamed (a .c .party) (t .line-at .result .counterparty) p
+line-has : (t : tie.After-line-at) (p : ℕ) → let a = start (t .before .before) .args in any (itemHas p) (itemsAt (a .file .now) (a .c)) ≡ isNamed (t .line-at .result .key .party) (t .line-at .result .key .counterparty) p
 unfolding itemHas
-line-has t p =
-    let a = start (t .before .before) .args in
-    of-one (itemHas p) (lineItem (a .c) (t .line-at .result)) (line-held (a .file .now) (a .c) (t .before .if1 .left) (t .line-at .result) (t .line-at .ensures))
+line-has t p = of-one _ _ (line-held _ _ (t .before .if1 .left) _ (t .line-at .ensures))
 
 head-at-requires : tie.Need-head-at-requires
 head-at-requires c κs = head-whole _ _ (start (c .before) .pre) (c .if1 .taken)
@@ -33,9 +30,7 @@ head-at-requires c κs = head-whole _ _ (start (c .before) .pre) (c .if1 .taken)
 returns : tie.Need-returns
 returns c =
     let h = c .before .before in
-    let i = h .before in
-    let a = start (i .before) .args in
-    λ p _. of-none (itemHas p) (nothing-held (a .file .now) (a .c) (i .if1 .taken) (h .head-at .result) (h .head-at .ensures) (c .if2 .taken)) (getD (a .parties .now) p false)
+    λ p _. of-none _ (nothing-held _ _ (h .before .if1 .taken) _ (h .head-at .ensures) (c .if2 .taken)) _
 
 mark-requires : tie.Need-mark-requires
 mark-requires c κs = search needs
@@ -68,7 +63,7 @@ returns-3 c =
     let m = own (c .before) in
     let t = m .before .before in
     let a = start (t .before .before) .args in
-    λ p l. rw (m .mark2 .ensures, line-has t p ∙ ap (λ q. isNamed (a .c .party) q p) (c .if3 .taken), or-false (eqb (a .c .party) p)) (marked (a .parties .now) (a .c .party) p l)
+    λ p l. rw (m .mark2 .ensures, line-has t p ∙ ap (λ q. isNamed (t .line-at .result .key .party) q p) (c .if3 .taken), or-false (eqb (t .line-at .result .key .party) p)) (marked (a .parties .now) (t .line-at .result .key .party) p l)
 
 mark-requires-3 : tie.Need-mark-requires-3
 mark-requires-3 c κs = search needs
@@ -83,7 +78,7 @@ returns-4 c =
     let m = own (k .before) in
     let t = m .before .before in
     let a = start (t .before .before) .args in
-    λ p l. rw (n .mark3 .ensures, m .mark2 .ensures, line-has t p) (both-marked (a .parties .now) (a .c .party) (t .line-at .result .counterparty) p (k .if3 .left) l)
+    λ p l. rw (n .mark3 .ensures, m .mark2 .ensures, line-has t p) (both-marked (a .parties .now) (t .line-at .result .key .party) (t .line-at .result .key .counterparty) p (k .if3 .left) l)
 
 pub party-at-spec : {M : Type 1} → statement M
 party-at-spec =

@@ -1,4 +1,4 @@
--- `book::words::amount_ok` meets its contract. Assumes nothing.
+-- `words::amount_ok` meets its contract. Assumes nothing.
 use mathlib.Core.Path.{sym, _∙_}
 use borrow.Author.Needs.{needs}
 use Rattle.rules.specs.Entry.{amountLimit}

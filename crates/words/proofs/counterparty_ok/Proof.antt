@@ -1,4 +1,4 @@
--- `book::words::counterparty_ok` meets its contract. Assumes nothing.
+-- `words::counterparty_ok` meets its contract. Assumes nothing.
 use borrow.Author.Tests.{eq-eqb, ne-eqb}
 use Rattle.rules.specs.Entry.{counterpartyOk}
 use Rattle.words.proofs.counterparty_ok.Statement.{statement}
@@ -6,11 +6,11 @@ use Rattle.words.proofs.counterparty_ok.Tie as tie
 
 returns : tie.Need-returns
 unfolding counterpartyOk
-returns c = rw (eq-eqb _ _ (c .if1 .taken))
+returns c = rw (eq-eqb _ _ (c .before .before .if1 .taken))
 
 returns-2 : tie.Need-returns-2
 unfolding counterpartyOk
-returns-2 c = rw (ne-eqb _ _ (c .if1 .left))
+returns-2 c = rw (ne-eqb _ _ (c .before .if1 .left))
 
 pub counterparty-ok-spec : {M : Type 1} → statement M
 counterparty-ok-spec = tie.close (tie.spec returns returns-2)

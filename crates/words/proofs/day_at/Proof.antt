@@ -1,4 +1,4 @@
--- `book::words::day_at` meets its contract. Assumes nothing.
+-- `words::day_at` meets its contract. Assumes nothing.
 use mathlib.Core.Path.{sym, ap}
 use borrow.Author.Needs.{needs}
 use Rattle.rules.specs.Entry.{key}

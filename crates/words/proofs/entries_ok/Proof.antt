@@ -1,4 +1,4 @@
--- `book::words::entries_ok` meets its contract. The loop's invariant: the test of all entries is that of the entries still to come. Assumes nothing.
+-- `words::entries_ok` meets its contract. The loop's invariant: the test of all entries is that of the entries still to come. Assumes nothing.
 use mathlib.Core.Path.{_≡_, sym, _∙_}
 use Prim.Native.Nat.{_≤_, _+_, _*_, _-_}
 use native.Mathlib.Nat.{sub-zero}

@@ -1,4 +1,4 @@
--- `book::words::entry_ok` meets its contract. Assumes nothing.
+-- `words::entry_ok` meets its contract. Assumes nothing.
 use mathlib.Core.Path.{sym, _∙_}
 use borrow.Author.Needs.{needs}
 use Rattle.words.proofs.BookCode.{entry-ok-at}

@@ -1,4 +1,4 @@
--- `book::words::fault_of` meets its contract. Assumes nothing.
+-- `words::fault_of` meets its contract. Assumes nothing.
 use borrow.Author.Needs.{needs}
 use Rattle.rules.specs.Entry.{fault, counterpartyOk}
 use Rattle.words.proofs.Ladder.{passed, failed}

@@ -1,4 +1,4 @@
--- `book::words::figures_ok` meets its contract. Assumes nothing.
+-- `words::figures_ok` meets its contract. Assumes nothing.
 use borrow.Author.Needs.{needs}
 use Rattle.rules.specs.Entry.{counterpartyOk, statusOk}
 use Rattle.words.specs.Parts.{figuresOk}

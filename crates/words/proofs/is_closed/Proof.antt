@@ -1,4 +1,4 @@
--- `book::words::is_closed` meets its contract. The loop's invariant: the day is closed by all entries exactly when it is
+-- `words::is_closed` meets its contract. The loop's invariant: the day is closed by all entries exactly when it is
 -- by those still to come. Assumes nothing.
 use mathlib.Core.Path.{_≡_, sym, _∙_}
 use Prim.Native.Nat.{_≤_, _+_, _*_, _-_}

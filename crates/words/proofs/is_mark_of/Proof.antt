@@ -1,4 +1,4 @@
--- `book::words::is_mark_of` meets its contract. Assumes nothing.
+-- `words::is_mark_of` meets its contract. Assumes nothing.
 use borrow.Author.Needs.{needs}
 use Rattle.words.proofs.is_mark_of.Statement.{statement}
 use Rattle.words.proofs.is_mark_of.Tie as tie

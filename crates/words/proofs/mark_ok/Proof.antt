@@ -1,4 +1,4 @@
--- `book::words::mark_ok` meets its contract. Assumes nothing.
+-- `words::mark_ok` meets its contract. Assumes nothing.
 use mathlib.Core.Path.{refl}
 use Rattle.rules.specs.Entry.{markOk}
 use Rattle.words.proofs.mark_ok.Statement.{statement}

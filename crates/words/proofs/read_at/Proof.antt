@@ -1,39 +1,78 @@
--- `book::words::read_at` meets its contract. Assumes nothing.
+-- `words::read_at` meets its contract. Assumes nothing.
+use mathlib.Core.Path.{_≡_, sym, ap, _∙_}
 use borrow.Author.Needs.{needs}
+use Rattle.rules.specs.Entry.{entryOf}
+use Rattle.words.proofs.BookCode.{decode-at}
 use Rattle.words.proofs.read_at.Statement.{statement}
 use Rattle.words.proofs.read_at.Tie as tie
 
-party-at-requires : tie.Need-party-at-requires
-party-at-requires c κs = search needs
+mul-entry-of : tie.Need-mul-entry-of
+mul-entry-of c = search needs
 
-day-at-requires : tie.Need-day-at-requires
-day-at-requires c κs = search needs
+shared-slice-read-entry-of : tie.Need-shared-slice-read-entry-of
+shared-slice-read-entry-of c = search needs
 
-type-at-requires : tie.Need-type-at-requires
-type-at-requires c κs = search needs
+add-entry-of : tie.Need-add-entry-of
+add-entry-of c = search needs
 
-counterparty-at-requires : tie.Need-counterparty-at-requires
-counterparty-at-requires c κs = search needs
+mul-entry-of-2 : tie.Need-mul-entry-of-2
+mul-entry-of-2 c = search needs
 
-status-at-requires : tie.Need-status-at-requires
-status-at-requires c κs = search needs
+shared-slice-read-entry-of-2 : tie.Need-shared-slice-read-entry-of-2
+shared-slice-read-entry-of-2 c = search needs
 
-amount-at-requires : tie.Need-amount-at-requires
-amount-at-requires c κs = search needs
+add-entry-of-2 : tie.Need-add-entry-of-2
+add-entry-of-2 c = search needs
+
+mul-entry-of-3 : tie.Need-mul-entry-of-3
+mul-entry-of-3 c = search needs
+
+shared-slice-read-entry-of-3 : tie.Need-shared-slice-read-entry-of-3
+shared-slice-read-entry-of-3 c = search needs
+
+add-entry-of-3 : tie.Need-add-entry-of-3
+add-entry-of-3 c = search needs
+
+mul-entry-of-4 : tie.Need-mul-entry-of-4
+mul-entry-of-4 c = search needs
+
+shared-slice-read-entry-of-4 : tie.Need-shared-slice-read-entry-of-4
+shared-slice-read-entry-of-4 c = search needs
+
+add-entry-of-4 : tie.Need-add-entry-of-4
+add-entry-of-4 c = search needs
+
+mul-entry-of-5 : tie.Need-mul-entry-of-5
+mul-entry-of-5 c = search needs
+
+shared-slice-read-entry-of-5 : tie.Need-shared-slice-read-entry-of-5
+shared-slice-read-entry-of-5 c = search needs
+
+entry-of-requires : tie.Need-entry-of-requires
+entry-of-requires c κs = search needs
 
 returns : tie.Need-returns
 returns c =
-    let b = c .before .before .before in
-    rw (b .before .before .party-at .ensures, b .before .day-at .ensures, b .type-at .ensures, c .before .before .counterparty-at .ensures, c .before .status-at .ensures, c .amount-at .ensures)
+    let a = c .before .before .before .before .before .before .before .args in
+    c .entry-of .ensures ∙ ap entryOf (sym (decode-at (a .book .now) (a .at)))
 
 pub read-at-spec : {M : Type 1} → statement M
 read-at-spec =
     tie.close
     (tie.spec
-    party-at-requires
-    day-at-requires
-    type-at-requires
-    counterparty-at-requires
-    status-at-requires
-    amount-at-requires
+    mul-entry-of
+    shared-slice-read-entry-of
+    add-entry-of
+    mul-entry-of-2
+    shared-slice-read-entry-of-2
+    add-entry-of-2
+    mul-entry-of-3
+    shared-slice-read-entry-of-3
+    add-entry-of-3
+    mul-entry-of-4
+    shared-slice-read-entry-of-4
+    add-entry-of-4
+    mul-entry-of-5
+    shared-slice-read-entry-of-5
+    entry-of-requires
     returns)

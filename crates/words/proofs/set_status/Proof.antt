@@ -1,4 +1,4 @@
--- `book::words::set_status` meets its contract. Assumes nothing.
+-- `words::set_status` meets its contract. Assumes nothing.
 use mathlib.Core.Path.{refl}
 use Prim.Native.Nat.{_+_, _*_}
 use native.Mathlib.Omega.{arith}

@@ -1,4 +1,4 @@
--- `book::words::shut_to` meets its contract. Assumes nothing.
+-- `words::shut_to` meets its contract. Assumes nothing.
 use borrow.Author.Needs.{needs}
 use Rattle.rules.specs.Book.{shutTo}
 use Rattle.words.proofs.Ladder.{passed, failed}

@@ -1,4 +1,4 @@
--- `book::words::status_at` meets its contract. Assumes nothing.
+-- `words::status_at` meets its contract. Assumes nothing.
 use mathlib.Core.Path.{sym, ap}
 use borrow.Author.Needs.{needs}
 use Rattle.rules.specs.Words.{decode}

@@ -1,4 +1,4 @@
--- `book::words::status_ok` meets its contract. Assumes nothing.
+-- `words::status_ok` meets its contract. Assumes nothing.
 use borrow.Author.Needs.{needs}
 use Rattle.rules.specs.Entry.{statusOk}
 use Rattle.words.proofs.status_ok.Statement.{statement}

@@ -1,4 +1,4 @@
--- `book::words::store_entry` meets its contract. Assumes nothing.
+-- `words::store_entry` meets its contract. Assumes nothing.
 use Prim.Native.Nat.{_+_, _*_}
 use native.Mathlib.Nat.{add-zero}
 use native.Mathlib.Omega.{arith}
@@ -9,8 +9,12 @@ use Rattle.rules.proofs.WordLaws.{legal-bounds}
 use Rattle.words.proofs.store_entry.Statement.{statement}
 use Rattle.words.proofs.store_entry.Tie as tie
 
+-- past the reading of the key's last figure
+abbrev start : tie.After-struct-known4 → tie.Start
+start c = c .before .before .before .before
+
 add-book : tie.Need-add-book
-add-book c = omega (arith, legal-bounds _ (c .pre .1))
+add-book c = omega (arith, legal-bounds _ (c .before .pre .1))
 
 mul-book : tie.Need-mul-book
 mul-book c = search needs
@@ -19,7 +23,7 @@ slice-write-book : tie.Need-slice-write-book
 slice-write-book c = search needs
 
 add-book-2 : tie.Need-add-book-2
-add-book-2 c = omega (arith, legal-bounds _ (c .pre .1))
+add-book-2 c = omega (arith, legal-bounds _ (c .before .before .pre .1))
 
 add-book-3 : tie.Need-add-book-3
 add-book-3 c = search needs
@@ -31,13 +35,13 @@ slice-write-book-2 : tie.Need-slice-write-book-2
 slice-write-book-2 c = simp length-set (omega arith)
 
 mul-book-3 : tie.Need-mul-book-3
-mul-book-3 c = omega (arith, legal-bounds _ (c .pre .1))
+mul-book-3 c = omega (arith, legal-bounds _ (c .before .before .before .pre .1))
 
 add-book-4 : tie.Need-add-book-4
-add-book-4 c = omega (arith, legal-bounds _ (c .pre .1))
+add-book-4 c = omega (arith, legal-bounds _ (start c .pre .1))
 
 add-book-5 : tie.Need-add-book-5
-add-book-5 c = omega (arith, legal-bounds _ (c .pre .1))
+add-book-5 c = omega (arith, legal-bounds _ (start c .pre .1))
 
 add-book-6 : tie.Need-add-book-6
 add-book-6 c = search needs
@@ -64,10 +68,10 @@ slice-write-book-4 : tie.Need-slice-write-book-4
 slice-write-book-4 c = simp length-set (omega arith)
 
 cast-book-2 : tie.Need-cast-book-2
-cast-book-2 c = omega (arith, legal-bounds _ (c .pre .1))
+cast-book-2 c = omega (arith, legal-bounds _ (start c .pre .1))
 
 add-book-9 : tie.Need-add-book-9
-add-book-9 c = omega (arith, legal-bounds _ (c .pre .1))
+add-book-9 c = omega (arith, legal-bounds _ (start c .pre .1))
 
 add-book-10 : tie.Need-add-book-10
 add-book-10 c = search needs
@@ -83,7 +87,7 @@ same-length c = simp length-set
 
 returns : tie.Need-returns
 unfolding storedAt
-returns c = rw (add-zero (c .args .«entry-type» + c .args .counterparty * 256))
+returns c = let k = start c .args .key in rw (add-zero (k .«entry_type» + k .counterparty * 256))
 
 pub store-entry-spec : {M : Type 1} → statement M
 store-entry-spec =

@@ -1,7 +1,11 @@
--- `book::words::words_ok` meets its contract. Assumes nothing.
+-- `words::words_ok` meets its contract. Assumes nothing.
+use mathlib.Core.Path.{_≡_, ap, _∙_}
+use mathlib.Core.Bool.{Bool}
+use mathlib.Core.List.{List, [], _∷_}
+use Prim.Native.Nat.{ℕ}
 use borrow.Author.Needs.{needs}
-use Rattle.rules.specs.Words.{decode}
-use Rattle.rules.specs.Entry.{counterpartyOk, statusOk}
+use Rattle.rules.specs.Words.{decode, entryOk}
+use Rattle.rules.specs.Entry.{recordIn, markOk}
 use Rattle.words.specs.Parts.{figuresOk}
 use Rattle.words.proofs.EntryWords.{day-refused, kinds-refused, party-out, party-in}
 use Rattle.words.proofs.words_ok.Statement.{statement}
@@ -20,17 +24,21 @@ returns-2 c =
     let a = c .before .before .args in
     kinds-refused (a .party) (a .day) (a .figures) (a .low) (a .high) (c .if2 .taken)
 
-cast-amount : tie.Need-cast-amount
-cast-amount c = search needs
+-- what the words hold, past the tests of the day and the last kinds
+module _ (k : tie.After-entry-of) where
+  abbrev five : List ℕ
+  five = let a = k .before .before .before .args in a .party ∷ a .day ∷ a .figures ∷ a .low ∷ a .high ∷ []
 
-cast-amount-2 : tie.Need-cast-amount-2
-cast-amount-2 c = search needs
+  marked : {r : Bool} → r ≡ markOk (recordIn (k .entry-of .result)) → r ≡ markOk (decode five)
+  unfolding decode
+  marked e = e ∙ ap (λ x. markOk (recordIn x)) (k .entry-of .ensures)
 
-mul-amount : tie.Need-mul-amount
-mul-amount c = search needs
+  figured : {r : Bool} → r ≡ figuresOk (recordIn (k .entry-of .result)) → r ≡ figuresOk (decode five)
+  unfolding decode
+  figured e = e ∙ ap (λ x. figuresOk (recordIn x)) (k .entry-of .ensures)
 
-add-amount : tie.Need-add-amount
-add-amount c = search needs
+entry-of-requires : tie.Need-entry-of-requires
+entry-of-requires c κs = search needs
 
 add-if3 : tie.Need-add-if3
 add-if3 c = search needs
@@ -39,31 +47,31 @@ mark-ok-requires : tie.Need-mark-ok-requires
 mark-ok-requires c κs = search needs
 
 returns-3 : tie.Need-returns-3
-unfolding decode
 returns-3 c =
     let b = c .before in
-    let a = b .before .before .before .args in
-    party-out (a .party) (a .day) (a .figures) (a .low) (a .high) (b .before .before .if1 .left) (b .before .if2 .left) (b .if3 .taken) (c .mark-ok .ensures)
+    let k = b .before in
+    let a = k .before .before .before .args in
+    party-out (a .party) (a .day) (a .figures) (a .low) (a .high) (k .before .before .if1 .left) (k .before .if2 .left) (b .if3 .taken) (marked k (c .mark-ok .ensures))
 
 figures-ok-requires : tie.Need-figures-ok-requires
 figures-ok-requires c κs = search needs
 
+-- past the test of the party
+in-range : (b : tie.Else3) {r : Bool} → r ≡ figuresOk (recordIn (b .before .entry-of .result)) →
+    r ≡ entryOk (five (b .before))
+in-range b e =
+    let k = b .before in
+    let a = k .before .before .before .args in
+    party-in (a .party) (a .day) (a .figures) (a .low) (a .high) (k .before .before .if1 .left) (k .before .if2 .left) (b .if3 .left) (figured k e)
+
 returns-4 : tie.Need-returns-4
-unfolding decode figuresOk counterpartyOk statusOk
-returns-4 c =
-    let b = c .before .before in
-    let a = b .before .before .before .args in
-    party-in (a .party) (a .day) (a .figures) (a .low) (a .high) (b .before .before .if1 .left) (b .before .if2 .left) (b .if3 .left) (c .figures-ok .ensures)
+returns-4 c = in-range (c .before .before .before) (c .figures-ok .ensures)
 
 figures-ok-requires-2 : tie.Need-figures-ok-requires-2
 figures-ok-requires-2 c κs = search needs
 
 returns-5 : tie.Need-returns-5
-unfolding decode figuresOk counterpartyOk statusOk
-returns-5 c =
-    let b = c .before .before in
-    let a = b .before .before .before .args in
-    party-in (a .party) (a .day) (a .figures) (a .low) (a .high) (b .before .before .if1 .left) (b .before .if2 .left) (b .if3 .left) (c .figures-ok2 .ensures)
+returns-5 c = in-range (c .before .before .before) (c .figures-ok2 .ensures)
 
 pub words-ok-spec : {M : Type 1} → statement M
 words-ok-spec =
@@ -72,10 +80,7 @@ words-ok-spec =
     add-if1
     returns
     returns-2
-    cast-amount
-    cast-amount-2
-    mul-amount
-    add-amount
+    entry-of-requires
     add-if3
     mark-ok-requires
     returns-3

@@ -1,6 +1,7 @@
 -- `dayfile::check::close_days` meets its contract. The loop's invariant: a day is closed in the whole if it is closed in the table or among the entries to come. Assumes nothing.
 use mathlib.Core.Path.{refl}
 use mathlib.Core.Bool.{or-false}
+use Rattle.rules.specs.Entry.{dayPlaces}
 use Rattle.numbers.specs.Tests.{any}
 use Rattle.rules.specs.Words.{decode, countOf}
 use Rattle.rules.specs.Book.{isMarkOf}
@@ -14,7 +15,6 @@ use lib.ListN.{length, getD, drop}
 use Rattle.rules.specs.Words.{entries, readEntries}
 use Rattle.rules.specs.Book.{isClosed}
 use Rattle.words.proofs.BookCode.{book-long, book-entry, closed-from}
-use Rattle.dayfile.specs.Check.{tableDays}
 use borrow.Author.Needs.{needs}
 use Rattle.dayfile.proofs.check.close_days.Statement.{statement}
 use Rattle.dayfile.proofs.check.close_days.Tie as tie
@@ -22,7 +22,7 @@ use Rattle.dayfile.proofs.check.close_days.Tie as tie
 abbrev Inv-loop : tie.InvT-loop
 Inv-loop book closed₀ count i₀ closed i =
     (i ≤ count) × (length closed ≡ length closed₀)
-    × ((d : ℕ) → d < tableDays → getD closed₀ d false || isClosed d (entries book) ≡ getD closed d false || isClosed d (readEntries (count - i) (drop (3 + 5 * i) book)))
+    × ((d : ℕ) → d < dayPlaces → getD closed₀ d false || isClosed d (entries book) ≡ getD closed d false || isClosed d (readEntries (count - i) (drop (3 + 5 * i) book)))
 
 abbrev μ-loop : tie.MeasureT-loop
 μ-loop book closed₀ count i₀ closed i = count - i

@@ -1,24 +1,24 @@
 -- `detection::sums::add_entry` meets its contract. Assumes nothing.
 use mathlib.Core.Path.{sym}
 use native.Mathlib.Omega.{arith}
+use Rattle.rules.specs.Entry.{recordIn}
 use Rattle.words.proofs.Ladder.{passed, failed}
-use Rattle.cells.specs.Cells.{recordRead}
 use Rattle.detection.proofs.TableLaws.{Counted, counted-facts, not-counted, add-fits, add-fits-again, sum-only, sum-and-bought}
 use borrow.Author.Needs.{needs}
 use Rattle.detection.proofs.sums.add_entry.Statement.{statement}
 use Rattle.detection.proofs.sums.add_entry.Tie as tie
 
 -- past the test: the entry counts
-facts : (c : tie.Else1) → Counted (c .before .before .args .day) (recordRead (c .before .before .args .e))
+facts : (c : tie.Else1) → Counted (c .before .before .args .day) (recordIn (c .before .before .args .e))
 facts c =
     let s = c .before .before in
-    counted-facts (s .args .day) (recordRead (s .args .e)) (s .pre .0) (passed (c .before .counts .ensures) (c .if1 .left))
+    counted-facts (s .args .day) (recordIn (s .args .e)) (s .pre .0) (passed (c .before .counts .ensures) (c .if1 .left))
 
 counts-requires : tie.Need-counts-requires
 counts-requires c κs = search needs
 
 returns : tie.Need-returns
-returns c = let a = c .before .before .args in sym (not-counted (a .day) (recordRead (a .e)) (a .table .now) (failed (c .before .counts .ensures) (c .if1 .taken)))
+returns c = let a = c .before .before .args in sym (not-counted (a .day) (recordIn (a .e)) (a .table .now) (failed (c .before .counts .ensures) (c .if1 .taken)))
 
 sum-place-requires : tie.Need-sum-place-requires
 sum-place-requires c κs = facts c .facts .volume
@@ -61,14 +61,14 @@ returns-2 c =
     let p = b .before .before .before .before .before in
     let e = p .before in
     let a = e .before .before .args in
-    sum-and-bought (a .day) (recordRead (a .e)) (a .table .now) (passed (e .before .counts .ensures) (e .if1 .left)) (b .if2 .taken) (rw (p .sum-place .ensures) at (b .before .before .add-to .ensures)) (c .add-to2 .ensures)
+    sum-and-bought (a .day) (recordIn (a .e)) (a .table .now) (passed (e .before .counts .ensures) (e .if1 .left)) (b .if2 .taken) (rw (p .sum-place .ensures) at (b .before .before .add-to .ensures)) (c .add-to2 .ensures)
 
 returns-3 : tie.Need-returns-3
 returns-3 c =
     let p = c .before .before .before .before .before in
     let e = p .before in
     let a = e .before .before .args in
-    sum-only (a .day) (recordRead (a .e)) (a .table .now) (passed (e .before .counts .ensures) (e .if1 .left)) (c .if2 .left) (rw (p .sum-place .ensures) at (c .before .before .add-to .ensures))
+    sum-only (a .day) (recordIn (a .e)) (a .table .now) (passed (e .before .counts .ensures) (e .if1 .left)) (c .if2 .left) (rw (p .sum-place .ensures) at (c .before .before .add-to .ensures))
 
 pub add-entry-spec : {M : Type 1} → statement M
 add-entry-spec =

@@ -9,21 +9,21 @@ use Rattle.file_walk.proofs.walk.line_at.Tie as tie
 piece-from-requires : tie.Need-piece-from-requires
 piece-from-requires c κs = search needs
 
-cast-t9 : tie.Need-cast-t9
-cast-t9 c = search needs
+cast-amount : tie.Need-cast-amount
+cast-amount c = search needs
 
-cast-t10 : tie.Need-cast-t10
-cast-t10 c = search needs
+cast-amount-2 : tie.Need-cast-amount-2
+cast-amount-2 c = search needs
 
-mul-t11 : tie.Need-mul-t11
-mul-t11 c = search needs
+mul-amount : tie.Need-mul-amount
+mul-amount c = search needs
 
-add-t12 : tie.Need-add-t12
-add-t12 c = search needs
+add-amount : tie.Need-add-amount
+add-amount c = search needs
 
 returns : tie.Need-returns
 unfolding lineAt
 returns c = rw (c .before .before .before .piece-from .ensures ∙ line-found _ _ (c .before .before .before .before .before .pre))
 
 pub line-at-spec : {M : Type 1} → statement M
-line-at-spec = tie.close (tie.spec piece-from-requires cast-t9 cast-t10 mul-t11 add-t12 returns)
+line-at-spec = tie.close (tie.spec piece-from-requires cast-amount cast-amount-2 mul-amount add-amount returns)
