@@ -1,5 +1,5 @@
 -- The tests of an entry's five words as code makes them: whole words held to kind and range in one comparison. Assumes nothing.
-use mathlib.Core.Path.{_≡_, refl, sym, _∙_}
+use mathlib.Core.Path.{_≡_, refl, sym, ap, _∙_}
 use mathlib.Core.Bool.{Bool, true, false, not, _&&_, _||_, true≢false}
 use mathlib.Core.List.{[], _∷_}
 use Prim.Native.Nat.{ℕ, _+_, _≤_, _<_}
@@ -8,7 +8,7 @@ use lib.Dec.{eqb, leb}
 use borrow.Author.Tests.{le-leb, eq-eqb, eqb-true, not-true, not-false}
 use Rattle.numbers.specs.Causes.{unless, firstOf}
 use Rattle.numbers.proofs.TestLaws.{and-split, and-join, every-holds}
-use Rattle.rules.specs.Entry.{Record, key, within, partyOk, dayOk, isType, counterpartyOk, amountLimit, statusOk, fault, isMark, markOk, isStanding, legal}
+use Rattle.rules.specs.Entry.{Record, key, bilateral, within, partyOk, dayOk, isType, counterpartyOk, amountLimit, statusOk, fault, isMark, markOk, isStanding, legal}
 use Rattle.rules.specs.Words.{word, kindOf, valueOf, decode, entryOk}
 use Rattle.rules.proofs.WordLaws.{entry-facts, legal-bounds, within-true}
 use Rattle.words.specs.Parts.{figuresOk}
@@ -59,6 +59,14 @@ plain-legal r p d =
 pub no-party-legal : (r : Record) → partyOk (key r .party) ≡ false → markOk r ≡ legal r
 unfolding legal fault
 no-party-legal r p = rw p
+
+-- type 6 is a type
+pub sale-figures : (r : Record) → key r .type ≡ bilateral → {c a s : Bool} → c ≡ counterpartyOk (key r) → a ≡ leb (r .amount) (amountLimit bilateral) → s ≡ statusOk (r .label) → c && a && s ≡ figuresOk r
+unfolding figuresOk
+sale-figures r t p q u =
+    let y : isType (key r .type) ≡ true = ap isType t in
+    let l : amountLimit (key r .type) ≡ amountLimit bilateral = ap amountLimit t in
+    rw (p, q, u, y, l)
 
 -- the words a, d, f, l and h of an entry: what each return of the code's ladder knows
 abbrev pub dayWord : ℕ → Bool

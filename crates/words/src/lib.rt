@@ -141,11 +141,15 @@ fn mark_ok(e: Entry) -> bool
         & (e.status == STANDING)
 }
 
-// Checks 5 to 7 and the status, where party and day are in range.
+// Checks 5 to 7 and the status, where party and day are in range. Type 6 is taken apart from the others, so that each way
+// has few tests.
 fn figures_ok(e: Entry) -> bool
     ensures { λ r. ⌜ r ≡ figuresOk (recordIn e) ⌝ }
 {
     let key = e.key;
+    if key.entry_type == BILATERAL {
+        return counterparty_ok(key) & amount_ok(BILATERAL, e.amount) & status_ok(key, e.status);
+    }
     is_type(key.entry_type)
         & counterparty_ok(key)
         & amount_ok(key.entry_type, e.amount)
@@ -170,8 +174,7 @@ fn entry_of(party: u32, day: u32, figures: u32, low: u32, high: u32) -> Entry
     }
 }
 
-// The five words of an entry. Party and day are held to kind and range in one comparison of the whole word,
-// and type 6 is taken apart from the others so that each way has few tests.
+// The five words of an entry. Party and day are held to kind and range in one comparison of the whole word.
 fn words_ok(party: u32, day: u32, figures: u32, low: u32, high: u32) -> bool
     ensures { λ r. ⌜ r ≡ entryOk (party ∷ day ∷ figures ∷ low ∷ high ∷ []) ⌝ }
 {
@@ -181,14 +184,10 @@ fn words_ok(party: u32, day: u32, figures: u32, low: u32, high: u32) -> bool
     if !((figures / KIND == 3) & (low / KIND == 4) & (high / KIND == 5)) {
         return false;
     }
-    let e = entry_of(party, day, figures, low, high);
     if !((PARTY_WORD < party) & (party <= PARTY_WORD + LAST_PARTY)) {
-        return (party / KIND == 1) & mark_ok(e);
+        return (party / KIND == 1) & mark_ok(entry_of(party, day, figures, low, high));
     }
-    if e.key.entry_type == BILATERAL {
-        return figures_ok(e);
-    }
-    figures_ok(e)
+    figures_ok(entry_of(party, day, figures, low, high))
 }
 
 pub fn entry_ok(book: &[u32], at: usize) -> bool
