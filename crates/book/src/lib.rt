@@ -81,7 +81,7 @@ fn post_cause(book: &[u32], key: Key, amount: u64) -> u32
     if !is_book(book) {
         return NOT_A_BOOK;
     }
-    let fault = words::fault_of(key, amount);
+    let fault = entry_checks::fault_of(key, amount);
     if fault != 0 {
         return fault;
     }

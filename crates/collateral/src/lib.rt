@@ -19,10 +19,10 @@ fn cause_of(book: &[u32], case: Case) -> u32
     if !book::is_book(book) {
         return NOT_A_BOOK;
     }
-    if !words::party_ok(case.asked.party) {
+    if !entry_checks::party_ok(case.asked.party) {
         return BAD_PARTY;
     }
-    if !words::day_ok(case.asked.day) {
+    if !entry_checks::day_ok(case.asked.day) {
         return BAD_DAY;
     }
     if !ranges::figures_ok(case) {

@@ -16,7 +16,7 @@ fn control_cause(book: &[u32], day: u32) -> u32
     if !book::is_book(book) {
         return causes::NOT_A_BOOK;
     }
-    if !words::day_ok(day) {
+    if !entry_checks::day_ok(day) {
         return causes::BAD_DAY;
     }
     if words::is_closed(book, day) {

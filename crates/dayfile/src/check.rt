@@ -56,10 +56,10 @@ pub fn close_days(book: &[u32], closed: &mut [bool])
 pub fn block_cause(party: u32, day: u32) -> u32
     ensures { λ r. ⌜ r ≡ itemCause [] (emptyBlock party day) ⌝ }
 {
-    if !words::party_ok(party) {
+    if !entry_checks::party_ok(party) {
         return BAD_PARTY;
     }
-    if !words::day_ok(day) {
+    if !entry_checks::day_ok(day) {
         return BAD_DAY;
     }
     0
@@ -69,11 +69,11 @@ pub fn line_cause(closed: &[bool], key: Key, amount: u64) -> u32
     requires { ⌜ length (now closed) ≡ dayPlaces ⌝ }
     ensures { λ r. ⌜ r ≡ causeBy (now (closed .entry)) (line (keyIn key) amount) ⌝ }
 {
-    let fault = words::fault_of(key, amount);
+    let fault = entry_checks::fault_of(key, amount);
     if fault != 0 {
         return fault;
     }
-    if !words::is_bilateral(key) {
+    if !entry_checks::is_bilateral(key) {
         return 0;
     }
     if closed[key.day as usize] {

@@ -37,7 +37,7 @@ fn counts(e: Entry, day: u32) -> bool
 {
     (e.status == STANDING)
         & (e.key.day == day)
-        & words::is_volume(e.key.entry_type)
+        & entry_checks::is_volume(e.key.entry_type)
         & !((e.key.entry_type == BILATERAL) & (e.key.counterparty == 0))
 }
 

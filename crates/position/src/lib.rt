@@ -14,10 +14,10 @@ fn cause_of(book: &[u32], party: u32, day: u32) -> u32
     if !book::is_book(book) {
         return rules::causes::NOT_A_BOOK;
     }
-    if !words::party_ok(party) {
+    if !entry_checks::party_ok(party) {
         return rules::causes::BAD_PARTY;
     }
-    if !words::day_ok(day) {
+    if !entry_checks::day_ok(day) {
         return rules::causes::BAD_DAY;
     }
     0

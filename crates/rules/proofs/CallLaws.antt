@@ -23,7 +23,7 @@ use Rattle.rules.specs.Machine.{leavesOf, figuresOf}
 use Rattle.rules.specs.Calls.{Change, post, withdraw, control, file, Figures, noFigures, refusal, figuresOn, changed, onRecords, bookMachine, causeOf, figuresAt, wordsAfter}
 use Rattle.rules.proofs.WordLaws.{length-read, book-facts}
 use Rattle.rules.proofs.BookLaws.{open-limits, Stays, entry-at, posted-book, restatused-book}
-use Rattle.rules.proofs.LiftLaws.{SameView, room-each, cut-long, cut-view, Passes, passes, SameFor, same-room, with-room, same-cause, same-figures, refused-leaves, done-leaves, lifted-stays, cut-leaves}
+use Rattle.rules.proofs.LiftLaws.{SameView, room-each, cut-long, cut-view, Passes, passes, SameFor, equal-room, with-room, same-cause, same-figures, refused-leaves, done-leaves, lifted-stays, cut-leaves}
 use Rattle.rules.proofs.ChangeLaws.{post-clear, withdraw-clear, control-clear, file-clear, changes-keep, adds, changes-roomy}
 
 pub entries-count : (ws : List ℕ) → length (entries ws) ≡ countOf ws
@@ -78,7 +78,7 @@ module _ (m : ℕ) (full : bookWords ≤ m) (ws : List ℕ) where
   full-view = cut-view m (omega arith) ws (λ l. omega arith)
 
   pub full-same : (c : Change) → SameFor onRecords c (take m ws) ws
-  full-same c = same-room onRecords full-view (rw (length-take m ws) (omega arith)) c
+  full-same c = equal-room onRecords full-view (rw (length-take m ws) (omega arith)) c
 
 -- and words cut at any length with room for what the call adds
 pub room-same : (m : ℕ) → 3 ≤ m → (ws : List ℕ) (c : Change) → countOf ws + adds c ≤ roomIn (length (take m ws)) → SameFor onRecords c (take m ws) ws

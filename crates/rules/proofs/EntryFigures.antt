@@ -8,7 +8,8 @@ use lib.Dec.{eqb}
 use lib.ListN.{replicate}
 use Rattle.numbers.specs.Tests.{every}
 use Rattle.rules.specs.Refusals.{notABook, badFile, badParty, badDay, badType, badCounterparty, badAmount, dayClosed, noRoom, noEntry, badLength, badFigure}
-use Rattle.rules.specs.Entry.{Record, keyOf, recordOf, isVolume, isMoney, isType, isExport, isBilateral, isStanding, isCancelled, isMark, fault, markOk, statusOk, legal}
+use Rattle.rules.specs.Entry.{Record, keyOf, recordOf, recordIn, entryOf, isVolume, isMoney, isType, isExport, isBilateral, isStanding, isCancelled, isMark, fault, markOk, statusOk, legal}
+use Rattle.rules.specs.declared.Entry.{Entry}
 use Rattle.rules.proofs.Worked.{sameNumbers, computed}
 
 -- types 1 to 16 are volumes, 17 to 20 money; all but 6 have no counterparty
@@ -35,6 +36,13 @@ causesAre ts c a cause =
 -- an entry as words could hold it
 abbrev entry : ℕ → ℕ → ℕ → ℕ → ℕ → ℕ → Record
 entry p d t c s a = recordOf (keyOf p d t c) s a
+
+-- an entry as code carries it, and its figures
+abbrev held : Entry
+held = record { key = record { party = 7; day = 8; «entry_type» = 9; counterparty = 10 }; status = 11; amount = 12 }
+
+abbrev heldFigures : Entry → List ℕ
+heldFigures e = e .key .party ∷ e .key .day ∷ e .key .«entry_type» ∷ e .key .counterparty ∷ e .status ∷ e .amount ∷ []
 
 pub entryFigures : List Bool
 entryFigures =
@@ -139,6 +147,9 @@ entryFigures =
     ∷ not (markOk (entry 1 9000 1 0 0 0))
     ∷ isMark (entry 0 9000 21 0 0 0)
     ∷ not (isMark (entry 1 9000 20 0 0 0))
+    -- an entry as code carries it, figure by figure, both ways
+    ∷ sameNumbers (heldFigures (entryOf (entry 1 2 3 4 5 6))) (1 ∷ 2 ∷ 3 ∷ 4 ∷ 5 ∷ 6 ∷ [])
+    ∷ sameNumbers (heldFigures (entryOf (recordIn held))) (7 ∷ 8 ∷ 9 ∷ 10 ∷ 11 ∷ 12 ∷ [])
     ∷ []
 
 pub entryFigures-hold : every entryFigures ≡ true

@@ -8,8 +8,8 @@ use Prim.Native.Nat.{ℕ}
 use lib.Dec.{eqb}
 use lib.ListN.{replicate, set, take}
 use Rattle.numbers.specs.Tests.{every}
-use Rattle.rules.specs.Entry.{Record, keyOf, recordOf, key}
-use Rattle.rules.specs.Words.{kindOf, valueOf, encode, decode, countOf, coefficientOf, toleranceOf, roomIn, isBook, entries, usedWords, laid}
+use Rattle.rules.specs.Entry.{Record, keyOf, recordOf, key, dayPlaces, partyPlaces}
+use Rattle.rules.specs.Words.{kindOf, valueOf, encode, decode, countOf, coefficientOf, toleranceOf, roomIn, isBook, entries, usedWords, laid, bookWords}
 use Rattle.rules.proofs.Worked.{sameNumbers, computed}
 
 -- the figures of an entry: party, day, type, counterparty, status, amount
@@ -153,6 +153,7 @@ wordFigures =
     -- room is (words lent - 3) / 5, rounded down, at most 3,072: 15,363 words
     ∷ sameNumbers (map roomIn (0 ∷ 3 ∷ 7 ∷ 8 ∷ 12 ∷ 13 ∷ [])) (0 ∷ 0 ∷ 0 ∷ 1 ∷ 1 ∷ 2 ∷ [])
     ∷ sameNumbers (map roomIn (15358 ∷ 15362 ∷ 15363 ∷ 15367 ∷ 15368 ∷ 1000000 ∷ [])) (3071 ∷ 3071 ∷ 3072 ∷ 3072 ∷ 3072 ∷ 3072 ∷ [])
+    ∷ sameNumbers (bookWords ∷ dayPlaces ∷ partyPlaces ∷ []) (15363 ∷ 36525 ∷ 1000 ∷ [])
     -- 3,073 entries are no book, though each is legal
     ∷ not (isBook (usedWords 110 600000 (replicate 3073 paid)))
     -- the words that records use, and the words past them as they were

@@ -54,7 +54,7 @@ fn tallied(mut t: Tally, book: &[u32], day: u32) -> TallyAnswer
         if today
             & (book[at] == own)
             & (figures < WITHDRAWN_WORD)
-            & words::is_volume(figures % TYPES)
+            & entry_checks::is_volume(figures % TYPES)
             & !(figures == EXPORT)
         {
             let place = sum_place(figures % TYPES);

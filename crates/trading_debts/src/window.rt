@@ -21,7 +21,7 @@ pub fn cell_at(book: &[u32], at: usize, party: u32, day: u32) -> usize
     let entry_type = words::type_at(book, at);
     let entry_day = words::day_at(book, at);
     let counts = (words::status_at(book, at) == 0)
-        & words::is_money(entry_type)
+        & entry_checks::is_money(entry_type)
         & (entry_day < day)
         & (day <= entry_day + 30);
     if counts {

@@ -1,3 +1,1 @@
-pub mod Ladder
 pub mod BookCode
-pub mod EntryWords

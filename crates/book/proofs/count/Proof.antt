@@ -1,7 +1,7 @@
 -- `book::count` meets its contract. Assumes nothing.
 use borrow.Author.Needs.{needs}
 use Rattle.rules.specs.Book.{countAnswer, countCause}
-use Rattle.words.proofs.Ladder.{passed, failed}
+use Rattle.entry_checks.proofs.Ladder.{passed, failed}
 use Rattle.words.proofs.BookCode.{book-long}
 use Rattle.book.proofs.count.Statement.{statement}
 use Rattle.book.proofs.count.Tie as tie

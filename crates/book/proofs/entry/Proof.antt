@@ -8,7 +8,7 @@ use borrow.Author.Needs.{needs}
 use Rattle.rules.specs.Entry.{recordIn}
 use Rattle.rules.specs.Words.{isBook, countOf}
 use Rattle.rules.specs.Book.{readOf, readAnswer, readCause, entryAt}
-use Rattle.words.proofs.Ladder.{passed, failed}
+use Rattle.entry_checks.proofs.Ladder.{passed, failed}
 use Rattle.words.proofs.BookCode.{book-long, book-entry}
 use Rattle.book.proofs.entry.Statement.{statement}
 use Rattle.book.proofs.entry.Tie as tie

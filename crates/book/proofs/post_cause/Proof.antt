@@ -8,7 +8,7 @@ use Rattle.numbers.proofs.CauseLaws.{else-stop}
 use Rattle.rules.specs.Words.{countOf, roomIn}
 use Rattle.rules.specs.Book.{shutTo}
 use Rattle.rules.proofs.CallLaws.{post-cause}
-use Rattle.words.proofs.Ladder.{passed, failed}
+use Rattle.entry_checks.proofs.Ladder.{passed, failed}
 use Rattle.words.proofs.BookCode.{book-long}
 use Rattle.book.proofs.post_cause.Statement.{statement}
 use Rattle.book.proofs.post_cause.Tie as tie

@@ -6,7 +6,7 @@ use Rattle.rules.specs.Words.{countOf}
 use Rattle.rules.specs.Book.{entryAt}
 use Rattle.rules.proofs.CallLaws.{withdraw-cause}
 use Rattle.words.specs.Parts.{kept}
-use Rattle.words.proofs.Ladder.{passed, failed}
+use Rattle.entry_checks.proofs.Ladder.{passed, failed}
 use Rattle.words.proofs.BookCode.{book-long, book-entry}
 use Rattle.book.proofs.withdraw_cause.Statement.{statement}
 use Rattle.book.proofs.withdraw_cause.Tie as tie

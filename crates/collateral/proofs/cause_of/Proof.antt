@@ -1,7 +1,7 @@
 -- `collateral::cause_of` meets its contract. Assumes nothing.
 use Rattle.rules.specs.Balance.{partyDayCause}
 use Rattle.rules.specs.Collateral.{collateralCause}
-use Rattle.words.proofs.Ladder.{passed, failed}
+use Rattle.entry_checks.proofs.Ladder.{passed, failed}
 use borrow.Author.Needs.{needs}
 use Rattle.collateral.proofs.cause_of.Statement.{statement}
 use Rattle.collateral.proofs.cause_of.Tie as tie

@@ -4,7 +4,7 @@ use mathlib.Core.Bool.{true, false}
 use Rattle.rules.specs.Entry.{dayOk}
 use Rattle.rules.specs.Words.{isBook, entries}
 use Rattle.rules.specs.Book.{isClosed}
-use Rattle.words.proofs.Ladder.{passed, failed}
+use Rattle.entry_checks.proofs.Ladder.{passed, failed}
 use Rattle.words.proofs.BookCode.{book-long}
 use Rattle.control.proofs.RunLaws.{cause-book, cause-day, cause-closed, cause-room, cause-none}
 use borrow.Author.Needs.{needs}

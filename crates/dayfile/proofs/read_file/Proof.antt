@@ -2,7 +2,7 @@
 use mathlib.Core.Path.{_∙_}
 use native.Mathlib.Omega.{arith}
 use Rattle.words.proofs.BookCode.{book-long}
-use Rattle.words.proofs.Ladder.{passed, failed}
+use Rattle.entry_checks.proofs.Ladder.{passed, failed}
 use Rattle.dayfile.proofs.FileLaws.{not-a-book, not-a-file, left-as-was, done-passes, done-within, done-legal, done-count, done-stores}
 use borrow.Author.Needs.{needs}
 use Rattle.dayfile.proofs.read_file.Statement.{statement}

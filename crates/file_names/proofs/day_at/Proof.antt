@@ -6,7 +6,7 @@ use lib.Dec.{eqb}
 use borrow.Author.Tests.{eq-eqb, ne-eqb}
 use Rattle.numbers.specs.Tests.{any}
 use Rattle.rules.specs.DayFile.{emptyBlock, itemNames}
-use Rattle.words.proofs.Ladder.{passed, failed}
+use Rattle.entry_checks.proofs.Ladder.{passed, failed}
 use Rattle.file_walk.specs.Walk.{itemsAt, lineItem}
 use Rattle.file_walk.proofs.WalkLaws.{head-whole, line-whole, block-held, nothing-held, line-held}
 use Rattle.file_names.proofs.NameLaws.{marked, of-none, of-one}

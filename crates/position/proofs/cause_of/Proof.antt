@@ -1,6 +1,6 @@
 -- `position::cause_of` meets its contract. Assumes nothing.
 use borrow.Author.Needs.{needs}
-use Rattle.words.proofs.Ladder.{passed, failed}
+use Rattle.entry_checks.proofs.Ladder.{passed, failed}
 use Rattle.position.proofs.AnswerLaws.{no-book, no-party, no-day, no-cause}
 use Rattle.position.proofs.cause_of.Statement.{statement}
 use Rattle.position.proofs.cause_of.Tie as tie

@@ -6,7 +6,7 @@ use native.Mathlib.Omega.{arith}
 use lib.ListN.{drop}
 use borrow.Author.Needs.{needs}
 use Rattle.rules.specs.Words.{entriesOk}
-use Rattle.words.proofs.Ladder.{passed, failed}
+use Rattle.entry_checks.proofs.Ladder.{passed, failed}
 use Rattle.words.proofs.BookCode.{entries-ok-from}
 use Rattle.words.proofs.entries_ok.Statement.{statement}
 use Rattle.words.proofs.entries_ok.Tie as tie

@@ -1,7 +1,7 @@
 -- `words::shut_to` meets its contract. Assumes nothing.
 use borrow.Author.Needs.{needs}
 use Rattle.rules.specs.Book.{shutTo}
-use Rattle.words.proofs.Ladder.{passed, failed}
+use Rattle.entry_checks.proofs.Ladder.{passed, failed}
 use Rattle.words.proofs.shut_to.Statement.{statement}
 use Rattle.words.proofs.shut_to.Tie as tie
 

@@ -1,6 +1,6 @@
 -- `dayfile::check::block_cause` meets its contract. Assumes nothing.
 use Rattle.rules.specs.DayFile.{itemCause}
-use Rattle.words.proofs.Ladder.{passed, failed}
+use Rattle.entry_checks.proofs.Ladder.{passed, failed}
 use borrow.Author.Needs.{needs}
 use Rattle.dayfile.proofs.check.block_cause.Statement.{statement}
 use Rattle.dayfile.proofs.check.block_cause.Tie as tie

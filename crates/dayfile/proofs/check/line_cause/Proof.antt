@@ -5,7 +5,7 @@ use Prim.Native.Nat.{ℕ}
 use native.Mathlib.Omega.{arith}
 use Rattle.rules.specs.Entry.{Key, keyIn, fault, isBilateral}
 use Rattle.rules.proofs.WordLaws.{no-fault}
-use Rattle.words.proofs.Ladder.{passed, failed}
+use Rattle.entry_checks.proofs.Ladder.{passed, failed}
 use Rattle.dayfile.specs.Check.{causeBy}
 use Rattle.numbers.proofs.CauseLaws.{else-stop}
 use borrow.Author.Needs.{needs}

@@ -1,9 +1,9 @@
--- `words::figures_ok` meets its contract. Assumes nothing.
+-- `entry_checks::figures_ok` meets its contract. Assumes nothing.
 use borrow.Author.Needs.{needs}
-use Rattle.words.specs.Parts.{figuresOk}
-use Rattle.words.proofs.EntryWords.{sale-figures}
-use Rattle.words.proofs.figures_ok.Statement.{statement}
-use Rattle.words.proofs.figures_ok.Tie as tie
+use Rattle.entry_checks.specs.Parts.{figuresOk}
+use Rattle.entry_checks.proofs.EntryWords.{sale-figures}
+use Rattle.entry_checks.proofs.figures_ok.Statement.{statement}
+use Rattle.entry_checks.proofs.figures_ok.Tie as tie
 
 counterparty-ok-requires : tie.Need-counterparty-ok-requires
 counterparty-ok-requires c κs = search needs

@@ -1,9 +1,9 @@
--- `words::entry_of` meets its contract. Assumes nothing.
+-- `entry_checks::entry_of` meets its contract. Assumes nothing.
 use mathlib.Core.Path.{refl}
 use borrow.Author.Needs.{needs}
 use Rattle.rules.specs.Words.{decode}
-use Rattle.words.proofs.entry_of.Statement.{statement}
-use Rattle.words.proofs.entry_of.Tie as tie
+use Rattle.entry_checks.proofs.entry_of.Statement.{statement}
+use Rattle.entry_checks.proofs.entry_of.Tie as tie
 
 cast-amount : tie.Need-cast-amount
 cast-amount c = search needs

@@ -11,7 +11,7 @@ use Rattle.numbers.proofs.TestLaws.{and-split, and-join, every-holds}
 use Rattle.rules.specs.Entry.{Record, key, bilateral, within, partyOk, dayOk, isType, counterpartyOk, amountLimit, statusOk, fault, isMark, markOk, isStanding, legal}
 use Rattle.rules.specs.Words.{word, kindOf, valueOf, decode, entryOk}
 use Rattle.rules.proofs.WordLaws.{entry-facts, legal-bounds, within-true}
-use Rattle.words.specs.Parts.{figuresOk}
+use Rattle.entry_checks.specs.Parts.{figuresOk}
 
 pub same-test : (a b : Bool) → (a ≡ true → b ≡ true) → (b ≡ true → a ≡ true) → a ≡ b
 same-test true b f g = sym (f refl)

@@ -1,9 +1,9 @@
--- `words::fault_of` meets its contract. Assumes nothing.
+-- `entry_checks::fault_of` meets its contract. Assumes nothing.
 use borrow.Author.Needs.{needs}
 use Rattle.rules.specs.Entry.{fault, counterpartyOk}
-use Rattle.words.proofs.Ladder.{passed, failed}
-use Rattle.words.proofs.fault_of.Statement.{statement}
-use Rattle.words.proofs.fault_of.Tie as tie
+use Rattle.entry_checks.proofs.Ladder.{passed, failed}
+use Rattle.entry_checks.proofs.fault_of.Statement.{statement}
+use Rattle.entry_checks.proofs.fault_of.Tie as tie
 
 party-ok-requires : tie.Need-party-ok-requires
 party-ok-requires c κs = search needs

@@ -1,4 +1,4 @@
--- `words::words_ok` meets its contract. Assumes nothing.
+-- `entry_checks::words_ok` meets its contract. Assumes nothing.
 use mathlib.Core.Path.{_≡_, ap, _∙_}
 use mathlib.Core.Bool.{Bool}
 use mathlib.Core.List.{List, [], _∷_}
@@ -7,10 +7,10 @@ use borrow.Author.Needs.{needs}
 use Rattle.rules.specs.Words.{decode}
 use Rattle.rules.specs.Entry.{Record, recordIn, entryOf, markOk}
 use Rattle.rules.specs.declared.Entry.{Entry}
-use Rattle.words.specs.Parts.{figuresOk}
-use Rattle.words.proofs.EntryWords.{day-refused, kinds-refused, party-out, party-in}
-use Rattle.words.proofs.words_ok.Statement.{statement}
-use Rattle.words.proofs.words_ok.Tie as tie
+use Rattle.entry_checks.specs.Parts.{figuresOk}
+use Rattle.entry_checks.proofs.EntryWords.{day-refused, kinds-refused, party-out, party-in}
+use Rattle.entry_checks.proofs.words_ok.Statement.{statement}
+use Rattle.entry_checks.proofs.words_ok.Tie as tie
 
 add-if1 : tie.Need-add-if1
 add-if1 c = search needs

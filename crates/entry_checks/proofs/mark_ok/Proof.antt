@@ -1,8 +1,8 @@
--- `words::mark_ok` meets its contract. Assumes nothing.
+-- `entry_checks::mark_ok` meets its contract. Assumes nothing.
 use mathlib.Core.Path.{refl}
 use Rattle.rules.specs.Entry.{markOk}
-use Rattle.words.proofs.mark_ok.Statement.{statement}
-use Rattle.words.proofs.mark_ok.Tie as tie
+use Rattle.entry_checks.proofs.mark_ok.Statement.{statement}
+use Rattle.entry_checks.proofs.mark_ok.Tie as tie
 
 returns : tie.Need-returns
 unfolding markOk

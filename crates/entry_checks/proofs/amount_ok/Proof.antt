@@ -1,9 +1,9 @@
--- `words::amount_ok` meets its contract. Assumes nothing.
+-- `entry_checks::amount_ok` meets its contract. Assumes nothing.
 use mathlib.Core.Path.{sym, _∙_}
 use borrow.Author.Needs.{needs}
 use Rattle.rules.specs.Entry.{amountLimit}
-use Rattle.words.proofs.amount_ok.Statement.{statement}
-use Rattle.words.proofs.amount_ok.Tie as tie
+use Rattle.entry_checks.proofs.amount_ok.Statement.{statement}
+use Rattle.entry_checks.proofs.amount_ok.Tie as tie
 
 is-money-requires : tie.Need-is-money-requires
 is-money-requires c κs = search needs

@@ -1,8 +1,8 @@
--- `words::status_ok` meets its contract. Assumes nothing.
+-- `entry_checks::status_ok` meets its contract. Assumes nothing.
 use borrow.Author.Needs.{needs}
 use Rattle.rules.specs.Entry.{statusOk}
-use Rattle.words.proofs.status_ok.Statement.{statement}
-use Rattle.words.proofs.status_ok.Tie as tie
+use Rattle.entry_checks.proofs.status_ok.Statement.{statement}
+use Rattle.entry_checks.proofs.status_ok.Tie as tie
 
 is-bilateral-requires : tie.Need-is-bilateral-requires
 is-bilateral-requires c κs = search needs

@@ -1,8 +1,8 @@
--- `words::counterparty_ok` meets its contract. Assumes nothing.
+-- `entry_checks::counterparty_ok` meets its contract. Assumes nothing.
 use borrow.Author.Tests.{eq-eqb, ne-eqb}
 use Rattle.rules.specs.Entry.{counterpartyOk}
-use Rattle.words.proofs.counterparty_ok.Statement.{statement}
-use Rattle.words.proofs.counterparty_ok.Tie as tie
+use Rattle.entry_checks.proofs.counterparty_ok.Statement.{statement}
+use Rattle.entry_checks.proofs.counterparty_ok.Tie as tie
 
 returns : tie.Need-returns
 unfolding counterpartyOk

@@ -1,7 +1,7 @@
--- `words::is_type` meets its contract. Assumes nothing.
+-- `entry_checks::is_type` meets its contract. Assumes nothing.
 use borrow.Author.Needs.{needs}
-use Rattle.words.proofs.is_type.Statement.{statement}
-use Rattle.words.proofs.is_type.Tie as tie
+use Rattle.entry_checks.proofs.is_type.Statement.{statement}
+use Rattle.entry_checks.proofs.is_type.Tie as tie
 
 is-volume-requires : tie.Need-is-volume-requires
 is-volume-requires c κs = search needs
