@@ -4,6 +4,7 @@ ghost use lib.ListN.{length};
 ghost use Rattle.rules.specs.Entry.{keyIn, recordIn};
 ghost use Rattle.rules.specs.Words.{isBook};
 ghost use Rattle.rules.specs.Book.{openCause, openWords, defaultCoefficient, defaultTolerance, countAnswer, noRead, readOf, readAnswer};
+ghost use Rattle.rules.specs.Balance.{partyDayCause};
 ghost use Rattle.rules.specs.Calls.{causeOf, wordsAfter, postAnswer};
 ghost use Rattle.rules.specs.Calls as calls;
 use rules::Counted;
@@ -15,8 +16,10 @@ use rules::bounds::DEFAULT_COEFFICIENT;
 use rules::bounds::DEFAULT_TOLERANCE;
 use rules::bounds::MOST_COEFFICIENT;
 use rules::bounds::MOST_TOLERANCE;
+use rules::causes::BAD_DAY;
 use rules::causes::BAD_FIGURE;
 use rules::causes::BAD_LENGTH;
+use rules::causes::BAD_PARTY;
 use rules::causes::DAY_CLOSED;
 use rules::causes::NO_ENTRY;
 use rules::causes::NO_ROOM;
@@ -134,6 +137,22 @@ pub fn withdraw(book: &mut [u32], number: u32) -> u32
         return cause;
     }
     words::set_status(book, number as usize, WITHDRAWN);
+    0
+}
+
+// Why a party's day cannot be asked of a book: the lowest cause of 1, 3 and 4 that holds, or 0.
+pub fn party_day_cause(book: &[u32], party: u32, day: u32) -> u32
+    ensures { λ r. ⌜ r ≡ partyDayCause (now (book .entry)) party day ⌝ }
+{
+    if !is_book(book) {
+        return NOT_A_BOOK;
+    }
+    if !entry_checks::party_ok(party) {
+        return BAD_PARTY;
+    }
+    if !entry_checks::day_ok(day) {
+        return BAD_DAY;
+    }
     0
 }
 

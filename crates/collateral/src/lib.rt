@@ -3,10 +3,7 @@ ghost use mathlib.Core.Path.{_≡_};
 ghost use Rattle.rules.specs.Collateral.{collateralCause, collateralAnswer};
 use rules::Case;
 use rules::Collateral;
-use rules::causes::BAD_DAY;
 use rules::causes::BAD_FIGURE;
-use rules::causes::BAD_PARTY;
-use rules::causes::NOT_A_BOOK;
 
 mod items;
 mod months;
@@ -16,14 +13,9 @@ mod ranges;
 fn cause_of(book: &[u32], case: Case) -> u32
     ensures { λ r. ⌜ r ≡ collateralCause (now (book .entry)) case ⌝ }
 {
-    if !book::is_book(book) {
-        return NOT_A_BOOK;
-    }
-    if !entry_checks::party_ok(case.asked.party) {
-        return BAD_PARTY;
-    }
-    if !entry_checks::day_ok(case.asked.day) {
-        return BAD_DAY;
+    let cause = book::party_day_cause(book, case.asked.party, case.asked.day);
+    if cause != 0 {
+        return cause;
     }
     if !ranges::figures_ok(case) {
         return BAD_FIGURE;

@@ -2,7 +2,7 @@
 ghost use mathlib.Core.Path.{_≡_};
 ghost use mathlib.Core.List.{[], _∷_};
 ghost use lib.Dec.{leb};
-ghost use Rattle.rules.specs.Entry.{keyIn, recordIn, entryOf, recordOf, key, partyOk, dayOk, isType, isVolume, isMoney, isBilateral, counterpartyOk, amountLimit, fault, statusOk, markOk};
+ghost use Rattle.rules.specs.Entry.{keyIn, recordIn, entryOf, recordOf, partyOk, dayOk, isType, isVolume, isMoney, isBilateral, counterpartyOk, amountLimit, fault, statusOk, markOk};
 ghost use Rattle.rules.specs.Words.{decode, entryOk};
 ghost use Rattle.entry_checks.specs.Parts.{figuresOk};
 use rules::Entry;

@@ -25,18 +25,6 @@ pub record Passes (ws : List ℕ) (p d : ℕ) : Type 0 where
   pub day : d ≤ 36524
 
 module _ (ws : List ℕ) (p d : ℕ) where
-  pub no-book : isBook ws ≡ false → 1 ≡ partyDayCause ws p d
-  unfolding partyDayCause
-  no-book e = rw e
-
-  pub no-party : isBook ws ≡ true → partyOk p ≡ false → 3 ≡ partyDayCause ws p d
-  unfolding partyDayCause
-  no-party e f = rw (e, f)
-
-  pub no-day : isBook ws ≡ true → partyOk p ≡ true → dayOk d ≡ false → 4 ≡ partyDayCause ws p d
-  unfolding partyDayCause
-  no-day e f g = rw (e, f, g)
-
   pub no-cause : isBook ws ≡ true → partyOk p ≡ true → dayOk d ≡ true → 0 ≡ partyDayCause ws p d
   unfolding partyDayCause
   no-cause e f g = rw (e, f, g)

@@ -2,32 +2,16 @@
 ghost use mathlib.Core.Path.{_≡_};
 ghost use mathlib.Core.Bool.{cond};
 ghost use Rattle.tally.specs.Bounded.{Bounded};
-ghost use Rattle.rules.specs.Balance.{partyDayCause, tallyAnswer, balanceOf, balanceAnswer, isDetected, dayAhead, delivery};
+ghost use Rattle.rules.specs.Balance.{tallyAnswer, balanceOf, balanceAnswer, isDetected, dayAhead, delivery};
 use rules::BalanceAnswer;
 use rules::Tally;
 use rules::TallyAnswer;
-
-// The lowest cause of 1, 3 and 4 that holds, or 0.
-fn cause_of(book: &[u32], party: u32, day: u32) -> u32
-    ensures { λ r. ⌜ r ≡ partyDayCause (now (book .entry)) party day ⌝ }
-{
-    if !book::is_book(book) {
-        return rules::causes::NOT_A_BOOK;
-    }
-    if !entry_checks::party_ok(party) {
-        return rules::causes::BAD_PARTY;
-    }
-    if !entry_checks::day_ok(day) {
-        return rules::causes::BAD_DAY;
-    }
-    0
-}
 
 // The sixteen sums and B, which both balances are made of.
 pub fn tally(book: &[u32], party: u32, day: u32) -> TallyAnswer
     ensures { λ r. ⌜ r ≡ tallyAnswer (now (book .entry)) party day ⌝ }
 {
-    let cause = cause_of(book, party, day);
+    let cause = book::party_day_cause(book, party, day);
     if cause != 0 {
         return tally::no_tally(cause);
     }
@@ -49,7 +33,7 @@ fn balance_of(ahead: bool, t: Tally, bought: u64, coefficient: u32, tolerance: u
 fn balance_with(ahead: bool, book: &[u32], party: u32, day: u32) -> BalanceAnswer
     ensures { λ r. ⌜ r ≡ balanceAnswer (cond ahead dayAhead delivery) (now (book .entry)) party day ⌝ }
 {
-    let cause = cause_of(book, party, day);
+    let cause = book::party_day_cause(book, party, day);
     if cause != 0 {
         return BalanceAnswer {
             answer: cause,

@@ -18,20 +18,20 @@ module _ (e : tie.Else1) where
   passed : let a = start .args in Passes (a .book .now) (a .party) (a .day)
   passed =
       let a = start .args in
-      passes (a .book .now) (a .party) (a .day) (e .before .cause-of .ensures) (e .if1 .left)
+      passes (a .book .now) (a .party) (a .day) (e .before .party-day-cause .ensures) (e .if1 .left)
 
 -- the scan, from before the call for the balance
 abbrev read : tie.After-tolerance-of → tie.After-scan
 read t = t .before .before .before
 
-cause-of-requires : tie.Need-cause-of-requires
-cause-of-requires c κs = search needs
+party-day-cause-requires : tie.Need-party-day-cause-requires
+party-day-cause-requires c κs = search needs
 
 returns : tie.Need-returns
 returns c =
     let b = c .before in
     let a = b .before .before .args in
-    balance-refused (a .book .now) (a .party) (a .day) (b .cause-of .ensures) (cond (a .ahead) dayAhead delivery) (c .if1 .taken)
+    balance-refused (a .book .now) (a .party) (a .day) (b .party-day-cause .ensures) (cond (a .ahead) dayAhead delivery) (c .if1 .taken)
 
 scan-requires : tie.Need-scan-requires
 scan-requires c κs = (passed c .is-book, (passed c .party, passed c .day))
@@ -52,14 +52,14 @@ returns-2 : tie.Need-returns-2
 returns-2 c =
     let r = read (c .before) in
     let a = start (r .before) .args in
-    balance-done (a .book .now) (a .party) (a .day) (r .before .before .cause-of .ensures) (cond (a .ahead) dayAhead delivery) (r .before .if1 .left) (r .scan .ensures) (c .before .before .coefficient-of .ensures) (c .before .tolerance-of .ensures)
+    balance-done (a .book .now) (a .party) (a .day) (r .before .before .party-day-cause .ensures) (cond (a .ahead) dayAhead delivery) (r .before .if1 .left) (r .scan .ensures) (c .before .before .coefficient-of .ensures) (c .before .tolerance-of .ensures)
     (toZ-ofZ w64 (c .balance-of .result) (record { sfits = c .balance-of .ok }) ∙ c .balance-of .ensures)
 
 pub balance-with-spec : {M : Type 1} → statement M
 balance-with-spec =
     tie.close
     (tie.spec
-    cause-of-requires
+    party-day-cause-requires
     returns
     scan-requires
     coefficient-of-requires
