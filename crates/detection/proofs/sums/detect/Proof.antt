@@ -7,30 +7,34 @@ use borrow.Author.Needs.{needs}
 use Rattle.detection.proofs.sums.detect.Statement.{statement}
 use Rattle.detection.proofs.sums.detect.Tie as tie
 
+-- with the table filled and both numbers read: the fill and the start
+module _ (t : tie.After-tolerance-of) where
+  abbrev filled : tie.After-fill
+  filled = t .before .before .before
+
+  abbrev start : tie.Start
+  start = filled .before .before .before
+
 fill-requires : tie.Need-fill-requires
 unfolding blank
 fill-requires c κs = (c .before .before .pre .0, refl)
 
 coefficient-of-requires : tie.Need-coefficient-of-requires
-coefficient-of-requires c κs = let s = c .before .before .before .before in book-long (s .args .book .now) (s .pre .0)
+coefficient-of-requires c κs = search book-long
 
 tolerance-of-requires : tie.Need-tolerance-of-requires
-tolerance-of-requires c κs = let s = c .before .before .before .before .before in book-long (s .args .book .now) (s .pre .0)
+tolerance-of-requires c κs = search book-long
 
 flag-detected-requires : tie.Need-flag-detected-requires
 flag-detected-requires c κs =
-    let f = c .before .before .before .before in
-    let s = f .before .before .before in
-    rw (c .before .before .coefficient-of .ensures, c .before .tolerance-of .ensures)
-    (flaggable (s .args .book .now) (s .pre .0) (s .args .day) (f .fill .last .1 .1 .0) (s .args .flags .now) (f .fill .ensures) (s .pre .1))
+    let t = c .before in
+    rw (t .before .coefficient-of .ensures, t .tolerance-of .ensures) (flaggable _ (start t .pre .0) _ _ _ (filled t .fill .ensures) (start t .pre .1))
 
 returns : tie.Need-returns
 returns c =
-    let f = c .before .before .before .before .before in
-    let s = f .before .before .before in
+    let t = c .before .before in
     c .flag-detected .ensures
-    ∙ rw (c .before .before .before .coefficient-of .ensures, c .before .before .tolerance-of .ensures)
-    (table-detects (s .args .book .now) (s .pre .0) (s .args .day) (f .fill .last .1 .1 .0) (s .args .among .now) (f .fill .ensures))
+    ∙ rw (t .before .coefficient-of .ensures, t .tolerance-of .ensures) (table-detects _ (start t .pre .0) _ _ _ (filled t .fill .ensures))
 
 pub detect-spec : {M : Type 1} → statement M
 detect-spec =
