@@ -1,10 +1,10 @@
 -- `control::passes::cancel` meets its contract. The loop's invariant: the entries passed are as the pass leaves them, the others as they were. Assumes nothing.
 use mathlib.Core.Path.{_≡_, refl, sym, ap, _∙_}
 use mathlib.Core.Logic.{⊎-elim}
-use Prim.Native.Nat.{_+_, _-_, _*_, _≤_, _<_}
+use Prim.Native.Nat.{_+_, _-_, _≤_, _<_}
 use native.Mathlib.Nat.{add-zero}
 use native.Mathlib.Omega.{arith}
-use lib.ListN.{length, take}
+use lib.ListN.{take}
 use Rattle.numbers.specs.Sums.{total, count}
 use Rattle.rules.specs.Words.{countOf, entries}
 use Rattle.rules.specs.Control.{isToCancel}

@@ -1,20 +1,16 @@
 -- `dayfile::check::close_days` meets its contract. The loop's invariant: a day is closed in the whole if it is closed in the table or among the entries to come. Assumes nothing.
-use mathlib.Core.Path.{refl}
-use mathlib.Core.Bool.{or-false}
-use Rattle.rules.specs.Entry.{dayPlaces}
-use Rattle.numbers.specs.Tests.{any}
-use Rattle.rules.specs.Words.{decode, countOf}
-use Rattle.rules.specs.Book.{isMarkOf}
-use Rattle.file_walk.proofs.WalkLaws.{table-step}
-use mathlib.Core.Path.{_≡_, sym, _∙_}
-use mathlib.Core.Bool.{false, _||_}
+use mathlib.Core.Path.{_≡_, refl, sym, _∙_}
+use mathlib.Core.Bool.{false, _||_, or-false}
 use Prim.Native.Nat.{ℕ, _≤_, _<_, _+_, _*_, _-_, zero-le}
 use native.Mathlib.Nat.{sub-zero}
 use native.Mathlib.Omega.{arith}
 use lib.ListN.{length, getD, drop}
-use Rattle.rules.specs.Words.{entries, readEntries}
-use Rattle.rules.specs.Book.{isClosed}
+use Rattle.numbers.specs.Tests.{any}
+use Rattle.rules.specs.Entry.{dayPlaces}
+use Rattle.rules.specs.Words.{decode, entries, readEntries}
+use Rattle.rules.specs.Book.{isMarkOf, isClosed}
 use Rattle.words.proofs.BookCode.{book-long, book-entry, closed-from}
+use Rattle.file_walk.proofs.WalkLaws.{table-step}
 use borrow.Author.Needs.{needs}
 use Rattle.dayfile.proofs.check.close_days.Statement.{statement}
 use Rattle.dayfile.proofs.check.close_days.Tie as tie

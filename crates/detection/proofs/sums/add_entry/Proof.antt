@@ -1,10 +1,8 @@
 -- `detection::sums::add_entry` meets its contract. Assumes nothing.
 use mathlib.Core.Path.{_≡_, sym}
-use mathlib.Core.Bool.{true}
 use native.Mathlib.Omega.{arith}
 use Rattle.rules.specs.Entry.{key, recordIn}
 use Rattle.cells.specs.Cells.{addTo}
-use Rattle.tally.specs.Scan.{counts}
 use Rattle.detection.specs.Tables.{sumCell}
 use Rattle.words.proofs.Ladder.{passed, failed}
 use Rattle.detection.proofs.TableLaws.{Counted, counted-facts, not-counted, add-fits, add-fits-again, sum-only, sum-and-bought}
@@ -17,11 +15,8 @@ module _ (e : tie.Else1) where
   abbrev start : tie.Start
   start = e .before .before
 
-  counted : counts (start .args .day) (recordIn (start .args .e) .label) ≡ true
-  counted = passed (e .before .counts .ensures) (e .if1 .left)
-
   facts : Counted (start .args .day) (recordIn (start .args .e))
-  facts = counted-facts _ _ (start .pre .0) counted
+  facts = search (counted-facts, passed)
 
 -- with its own cell added to: the place of its sum
 abbrev placed : tie.After-add-to → tie.After-sum-place
@@ -74,13 +69,10 @@ add-to-requires-2 c κs =
     add-fits-again _ _ _ _ _ (o .add-to .ensures) (λ q. omega (arith, q, placed o .sum-place .ensures)) (start e .pre .1) (omega arith) (f .amount)
 
 returns-2 : tie.Need-returns-2
-returns-2 c =
-    let b = c .before .before .before in
-    let o = b .before .before in
-    sum-and-bought _ _ _ (counted (placed o .before)) (b .if2 .taken) (own-added o) (c .add-to2 .ensures)
+returns-2 c = search (sum-and-bought, passed, own-added)
 
 returns-3 : tie.Need-returns-3
-returns-3 c = let o = c .before .before in sum-only _ _ _ (counted (placed o .before)) (c .if2 .left) (own-added o)
+returns-3 c = search (sum-only, passed, own-added, c .if2 .left)
 
 pub add-entry-spec : {M : Type 1} → statement M
 add-entry-spec =

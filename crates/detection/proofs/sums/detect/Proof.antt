@@ -1,9 +1,8 @@
 -- `detection::sums::detect` meets its contract. Assumes nothing.
-use mathlib.Core.Path.{_≡_, refl, _∙_}
+use mathlib.Core.Path.{refl, _∙_}
 use Rattle.words.proofs.BookCode.{book-long}
 use Rattle.cells.specs.Cells.{blank}
 use Rattle.detection.proofs.DetectLaws.{flaggable, table-detects}
-use borrow.Author.Needs.{needs}
 use Rattle.detection.proofs.sums.detect.Statement.{statement}
 use Rattle.detection.proofs.sums.detect.Tie as tie
 
