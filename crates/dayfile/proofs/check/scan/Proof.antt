@@ -23,16 +23,12 @@ Inv-loop file closed c₀ lines₀ c lines =
 abbrev μ-loop : tie.MeasureT-loop
 μ-loop file closed c₀ lines₀ c lines = length file - c .at
 
--- from a turn of the loop back to the start
-abbrev start : tie.At-loop Inv-loop μ-loop → tie.Start Inv-loop μ-loop
-start l = l .before .before .before .before
-
 -- with more to read: the turn, and the test
 module _ (t : tie.Then1 Inv-loop μ-loop) where
   abbrev turn : tie.At-loop Inv-loop μ-loop
   turn = t .before .before
 
-  more : isMore (start turn .args .file .now) (turn .loop .c) ≡ true
+  more : isMore (turn .before .before .before .before .args .file .now) (turn .loop .c) ≡ true
   more = sym (t .before .more .ensures) ∙ t .if1 .taken
 
 -- from the lines counted back to the test for more
@@ -50,7 +46,7 @@ more-requires : tie.Need-more-requires Inv-loop μ-loop
 more-requires c κs = c .loop .inv .0
 
 cause-at-requires : tie.Need-cause-at-requires Inv-loop μ-loop
-cause-at-requires c κs = (more c, start (turn c) .pre .1)
+cause-at-requires c κs = search more
 
 returns : tie.Need-returns Inv-loop μ-loop
 returns c =
@@ -61,12 +57,10 @@ lines-at-requires : tie.Need-lines-at-requires Inv-loop μ-loop
 lines-at-requires c κs = search needs
 
 add-lines : tie.Need-add-lines Inv-loop μ-loop
-add-lines c =
-    let l = turn (reading c) in
-    rw (c .lines-at .ensures) (omega (arith, lines-at-most (l .loop .c), l .loop .inv .0, l .loop .inv .1, start l .pre .0))
+add-lines c = rw (c .lines-at .ensures) (omega (arith, lines-at-most (turn (reading c) .loop .c)))
 
 advance-requires : tie.Need-advance-requires Inv-loop μ-loop
-advance-requires c κs = more (reading c)
+advance-requires c κs = search more
 
 loop-less : tie.Need-loop-less Inv-loop μ-loop
 loop-less c = search walk-less

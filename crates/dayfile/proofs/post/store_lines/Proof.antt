@@ -27,24 +27,13 @@ Inv-loop book₀ file number c₀ place₀ book c place =
 abbrev μ-loop : tie.MeasureT-loop
 μ-loop book₀ file number c₀ place₀ book c place = length file - c .at
 
--- from a turn of the loop back to the start
-abbrev start : tie.At-loop Inv-loop μ-loop → tie.Start Inv-loop μ-loop
-start l = l .before .before .before .before
-
 -- with more to read: the turn, and the test
 module _ (t : tie.Then1 Inv-loop μ-loop) where
   abbrev turn : tie.At-loop Inv-loop μ-loop
   turn = t .before .before
 
-  more : isMore (start turn .args .file .now) (turn .loop .c) ≡ true
+  more : isMore (turn .before .before .before .before .args .file .now) (turn .loop .c) ≡ true
   more = sym (t .before .more .ensures) ∙ t .if1 .taken
-
--- from the cursor moved on back to the line stored, and from there to the test for more
-abbrev stored : tie.After-slice-known2 Inv-loop μ-loop → tie.After-store-at Inv-loop μ-loop
-stored n = n .before .before
-
-abbrev reading : tie.After-store-at Inv-loop μ-loop → tie.Then1 Inv-loop μ-loop
-reading k = k .before .before
 
 begin-requires : tie.Need-begin-requires Inv-loop μ-loop
 begin-requires c κs = search needs
@@ -57,9 +46,7 @@ add-place c = search needs
 
 loop-holds : tie.Need-loop-holds Inv-loop μ-loop
 unfolding items
-loop-holds c =
-    let s = c .before .before .before in
-    rw (c .begin .ensures) (zero-le, refl, omega arith, s .pre .1, refl)
+loop-holds c = rw (c .begin .ensures) (zero-le, refl, omega arith, search needs, refl)
 
 more-requires : tie.Need-more-requires Inv-loop μ-loop
 more-requires c κs = c .loop .inv .0
@@ -70,15 +57,15 @@ store-at-requires c κs =
     (more t, (omega (arith, lines-step _ _ (more t)), legal-step _ _ (more t) (turn t .loop .inv .3) .0))
 
 advance-requires : tie.Need-advance-requires Inv-loop μ-loop
-advance-requires c κs = more (reading (stored c))
+advance-requires c κs = search more
 
 loop-less : tie.Need-loop-less Inv-loop μ-loop
 loop-less c = search walk-less
 
 loop-again : tie.Need-loop-again Inv-loop μ-loop
 loop-again c =
-    let k = stored (c .before) in
-    let t = reading k in
+    let k = c .before .before .before in
+    let t = k .before .before in
     let l = turn t .loop in
     rw (c .advance .ensures, k .store-at .ensures .0) (
       past-within _ _ (more t) .1,
