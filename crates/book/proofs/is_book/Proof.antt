@@ -1,15 +1,9 @@
 -- `book::is_book` meets its contract. Assumes nothing.
-use mathlib.Core.List.{List}
-use Prim.Native.Nat.{ℕ}
 use native.Mathlib.Omega.{arith}
 use borrow.Author.Needs.{needs}
 use Rattle.words.proofs.BookCode.{too-short, head-fails, head-holds, head-room}
 use Rattle.book.proofs.is_book.Statement.{statement}
 use Rattle.book.proofs.is_book.Tie as tie
-
--- with the room known: the words
-abbrev ws : tie.After-room → List ℕ
-ws r = r .before .before .before .before .before .before .before .before .before .args .book .now
 
 returns : tie.Need-returns
 returns c = search too-short
@@ -39,16 +33,13 @@ room-requires : tie.Need-room-requires
 room-requires c κs = search needs
 
 returns-2 : tie.Need-returns-2
-returns-2 c = let r = c .before in head-fails (ws r) (omega arith) (r .room .ensures) (c .if2 .taken)
+returns-2 c = search (head-fails, arith)
 
 entries-ok-requires : tie.Need-entries-ok-requires
-entries-ok-requires c κs = let r = c .before in head-room (ws r) (omega arith) (r .room .ensures) (c .if2 .left)
+entries-ok-requires c κs = search (head-room, arith)
 
 returns-3 : tie.Need-returns-3
-returns-3 c =
-    let e = c .before in
-    let r = e .before in
-    head-holds (ws r) (omega arith) (r .room .ensures) (e .if2 .left) (c .entries-ok .ensures)
+returns-3 c = search (head-holds, arith)
 
 pub is-book-spec : {M : Type 1} → statement M
 is-book-spec =

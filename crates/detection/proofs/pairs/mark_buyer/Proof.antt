@@ -23,7 +23,7 @@ pair-of-requires : tie.Need-pair-of-requires
 pair-of-requires c κs = pair c
 
 bit-at-requires : tie.Need-bit-at-requires
-bit-at-requires c κs = pair-in _ (pair (c .before)) (c .pair-of .ensures)
+bit-at-requires c κs = search (pair-in, pair)
 
 cast-buyers : tie.Need-cast-buyers
 cast-buyers c = search needs

@@ -6,14 +6,6 @@ use Rattle.detection.proofs.DetectLaws.{flaggable, table-detects}
 use Rattle.detection.proofs.sums.detect.Statement.{statement}
 use Rattle.detection.proofs.sums.detect.Tie as tie
 
--- with the table filled and both numbers read: the fill and the start
-module _ (t : tie.After-tolerance-of) where
-  abbrev filled : tie.After-fill
-  filled = t .before .before .before
-
-  abbrev start : tie.Start
-  start = filled .before .before .before
-
 fill-requires : tie.Need-fill-requires
 unfolding blank
 fill-requires c κs = (c .before .before .pre .0, refl)
@@ -25,15 +17,12 @@ tolerance-of-requires : tie.Need-tolerance-of-requires
 tolerance-of-requires c κs = search book-long
 
 flag-detected-requires : tie.Need-flag-detected-requires
-flag-detected-requires c κs =
-    let t = c .before in
-    rw (t .before .coefficient-of .ensures, t .tolerance-of .ensures) (flaggable _ (start t .pre .0) _ _ _ (filled t .fill .ensures) (start t .pre .1))
+flag-detected-requires c κs = let t = c .before in rw (t .before .coefficient-of .ensures, t .tolerance-of .ensures) (search flaggable)
 
 returns : tie.Need-returns
 returns c =
     let t = c .before .before in
-    c .flag-detected .ensures
-    ∙ rw (t .before .coefficient-of .ensures, t .tolerance-of .ensures) (table-detects _ (start t .pre .0) _ _ _ (filled t .fill .ensures))
+    c .flag-detected .ensures ∙ rw (t .before .coefficient-of .ensures, t .tolerance-of .ensures) (search table-detects)
 
 pub detect-spec : {M : Type 1} → statement M
 detect-spec =
