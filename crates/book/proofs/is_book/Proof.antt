@@ -6,7 +6,7 @@ use Rattle.book.proofs.is_book.Statement.{statement}
 use Rattle.book.proofs.is_book.Tie as tie
 
 returns : tie.Need-returns
-returns c = too-short (c .before .before .args .book .now) (c .if1 .taken)
+returns c = search too-short
 
 shared-slice-read-count : tie.Need-shared-slice-read-count
 shared-slice-read-count c = search needs
@@ -33,20 +33,13 @@ room-requires : tie.Need-room-requires
 room-requires c κs = search needs
 
 returns-2 : tie.Need-returns-2
-returns-2 c =
-    let ws = c .before .before .before .before .before .before .before .before .before .before .args .book .now in
-    head-fails ws (omega arith) (c .before .room .ensures) (c .if2 .taken)
+returns-2 c = search (head-fails, arith)
 
 entries-ok-requires : tie.Need-entries-ok-requires
-entries-ok-requires c κs =
-    let ws = c .before .before .before .before .before .before .before .before .before .before .args .book .now in
-    head-room ws (omega arith) (c .before .room .ensures) (c .if2 .left)
+entries-ok-requires c κs = search (head-room, arith)
 
 returns-3 : tie.Need-returns-3
-returns-3 c =
-    let b = c .before in
-    let ws = b .before .before .before .before .before .before .before .before .before .before .args .book .now in
-    head-holds ws (omega arith) (b .before .room .ensures) (b .if2 .left) (c .entries-ok .ensures)
+returns-3 c = search (head-holds, arith)
 
 pub is-book-spec : {M : Type 1} → statement M
 is-book-spec =

@@ -1,10 +1,10 @@
 -- `control::passes::cancel` meets its contract. The loop's invariant: the entries passed are as the pass leaves them, the others as they were. Assumes nothing.
 use mathlib.Core.Path.{_≡_, refl, sym, ap, _∙_}
 use mathlib.Core.Logic.{⊎-elim}
-use Prim.Native.Nat.{_+_, _-_, _*_, _≤_, _<_}
+use Prim.Native.Nat.{_+_, _-_, _≤_, _<_}
 use native.Mathlib.Nat.{add-zero}
 use native.Mathlib.Omega.{arith}
-use lib.ListN.{length, take}
+use lib.ListN.{take}
 use Rattle.numbers.specs.Sums.{total, count}
 use Rattle.rules.specs.Words.{countOf, entries}
 use Rattle.rules.specs.Control.{isToCancel}
@@ -24,28 +24,29 @@ Inv-loop book₀ day flags last n₀ i₀ book n i =
 abbrev μ-loop : tie.MeasureT-loop
 μ-loop book₀ day flags last n₀ i₀ book n i = last - i
 
+-- from a turn of the loop back to the start, and from the test of an entry back to its turn
 abbrev start : tie.At-loop Inv-loop μ-loop → tie.Start Inv-loop μ-loop
 start l = l .before .before .before .before
 
--- in a turn the number is that of an entry
-taken : (c : tie.In-loop Inv-loop μ-loop) → c .before .loop .i < countOf (start (c .before) .args .book .now)
-taken c = rw (c .before .before .count-of .ensures) at (c .loop-test .taken)
+abbrev turn : tie.After-is-to-cancel Inv-loop μ-loop → tie.In-loop Inv-loop μ-loop
+turn q = q .before .before .before
 
-placed : (c : tie.In-loop Inv-loop μ-loop) → Placed (c .before .loop .book) (c .before .loop .i)
-placed c =
-    let l = c .before in
-    let s = start l in
-    through-placed (flagged (s .args .flags .now)) (s .args .day) (s .args .book .now) (s .pre) (l .loop .i) (taken c) (l .loop .book) (l .loop .inv .1)
+-- in a turn the number is that of an entry
+taken : (t : tie.In-loop Inv-loop μ-loop) → t .before .loop .i < countOf (start (t .before) .args .book .now)
+taken t = rw (t .before .before .count-of .ensures) at (t .loop-test .taken)
+
+placed : (t : tie.In-loop Inv-loop μ-loop) → Placed (t .before .loop .book) (t .before .loop .i)
+placed t = search (through-placed, taken)
 
 count-of-requires : tie.Need-count-of-requires Inv-loop μ-loop
-count-of-requires c κs = let s = c .before .before in book-long (s .args .book .now) (s .pre)
+count-of-requires c κs = search book-long
 
 cast-count : tie.Need-cast-count Inv-loop μ-loop
 cast-count c = search needs
 
 loop-holds : tie.Need-loop-holds Inv-loop μ-loop
 unfolding count total
-loop-holds c = let s = c .before .before .before in (search needs, through-none (flagged (s .args .flags .now)) (s .args .day) (s .args .book .now) (s .pre), refl)
+loop-holds c = (search needs, search through-none, refl)
 
 mul-read-at : tie.Need-mul-read-at Inv-loop μ-loop
 mul-read-at c = search needs
@@ -57,19 +58,17 @@ read-at-requires : tie.Need-read-at-requires Inv-loop μ-loop
 read-at-requires c κs = placed (c .before) .within
 
 is-to-cancel-requires : tie.Need-is-to-cancel-requires Inv-loop μ-loop
-is-to-cancel-requires c κs =
-    let l = c .before .before .before in
-    let s = start l in
-    through-party (flagged (s .args .flags .now)) (s .args .day) (s .args .book .now) (s .pre) (l .loop .i) (taken (c .before .before)) (l .loop .book) (l .loop .inv .1) (c .read-at .result) (c .read-at .ensures)
+is-to-cancel-requires c κs = search (through-party, taken)
 
 set-status-requires : tie.Need-set-status-requires Inv-loop μ-loop
-set-status-requires c κs = let p = placed (c .before .before .before .before .before) in (p .within, (p .ok, search needs))
+set-status-requires c κs = let p = placed (turn (c .before .before)) in (p .within, (p .ok, search needs))
 
 add-n : tie.Need-add-n Inv-loop μ-loop
 add-n c =
-    let l = c .before .before .before .before .before .before .before .before .before in
-    let s = start l in
-    omega (arith, l .loop .inv, count-few (isToCancel (flagged (s .args .flags .now)) (s .args .day)) (l .loop .i) (entries (s .args .book .now)), taken (c .before .before .before .before .before .before .before .before), scan-few (s .args .book .now) (s .pre))
+    let t = turn (c .before .before .before .before .before) in
+    let l = t .before in
+    let a = start l .args in
+    omega (arith, l .loop .inv, count-few (isToCancel (flagged (a .flags .now)) (a .day)) (l .loop .i) (entries (a .book .now)), taken t, scan-few (a .book .now) (start l .pre))
 
 add-i : tie.Need-add-i Inv-loop μ-loop
 add-i c = search needs
@@ -79,42 +78,38 @@ loop-less c = search needs
 
 loop-again : tie.Need-loop-again Inv-loop μ-loop
 loop-again c =
-    let l = c .before .before .before .before .before in
-    let s = start l in
-    let who = flagged (s .args .flags .now) in
-    let d = s .args .day in
-    let ws = s .args .book .now in
-    let t = taken (c .before .before .before .before) in
-    let e = c .before .before .read-at .result in
+    let t = turn (c .before) in
+    let l = t .before in
+    let a = start l .args in
+    let b = start l .pre in
+    let v = l .loop .inv in
     let q = c .before .before .read-at .ensures in
-    let r = through-read who d ws (s .pre) (l .loop .i) t (l .loop .book) (l .loop .inv .1) e q in
-    let m = count-more who d (l .loop .i) (entries ws) (rw (book-facts ws (s .pre) .count) t) in
+    let r = through-read _ _ _ b _ (taken t) _ (v .1) _ q in
+    let m = count-more (flagged (a .flags .now)) (a .day) (l .loop .i) (entries (a .book .now)) (rw (book-facts (a .book .now) b .count) (taken t)) in
     ⊎-elim
     (λ w.
     let y = sym (c .before .is-to-cancel .ensures) ∙ w .0 .taken in (
       omega arith,
-      w .5 ∙ through-cancelled who d ws (s .pre) (l .loop .i) t (l .loop .book) (l .loop .inv .1) e q y (w .2 .ensures),
-      w .6 ∙ ap (λ n. n + 1) (l .loop .inv .2) ∙ sym (m ∙ rw (← r, y)),
+      w .5 ∙ through-cancelled _ _ _ b _ (taken t) _ (v .1) _ q y (w .2 .ensures),
+      w .6 ∙ ap (λ n. n + 1) (v .2) ∙ sym (m ∙ rw (← r, y)),
     ))
     (λ w.
     let y = sym (c .before .is-to-cancel .ensures) ∙ w .0 .left in (
       omega arith,
-      w .1 ∙ through-kept who d ws (s .pre) (l .loop .i) t (l .loop .book) (l .loop .inv .1) e q y,
-      w .2 ∙ l .loop .inv .2 ∙ sym (m ∙ rw (← r, y, add-zero)),
+      w .1 ∙ through-kept _ _ _ b _ (taken t) _ (v .1) _ q y,
+      w .2 ∙ v .2 ∙ sym (m ∙ rw (← r, y, add-zero)),
     ))
     (c .if1 .came)
 
 same-length : tie.Need-same-length Inv-loop μ-loop
-same-length c = let l = c .before in let s = start l in through-length (flagged (s .args .flags .now)) (s .args .day) (s .args .book .now) (s .pre) (l .loop .i) (l .loop .book) (l .loop .inv .1)
+same-length c = search through-length
 
 returns : tie.Need-returns Inv-loop μ-loop
 returns c =
     let l = c .before in
-    let s = start l in
-    let ws = s .args .book .now in
     let h = rw (l .before .count-of .ensures) at (c .loop-test .left) in (
-      l .loop .inv .2 ∙ rw (scan-end ws (s .pre) (l .loop .i) h),
-      through-all (flagged (s .args .flags .now)) (s .args .day) ws (s .pre) (l .loop .i) (l .loop .book) h (l .loop .inv .1),
+      l .loop .inv .2 ∙ rw (scan-end _ (start l .pre) _ h),
+      through-all _ _ _ (start l .pre) _ _ h (l .loop .inv .1),
     )
 
 pub cancel-spec : {M : Type 1} → statement M

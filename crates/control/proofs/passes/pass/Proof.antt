@@ -1,5 +1,4 @@
 -- `control::passes::pass` meets its contract. Assumes nothing.
-use Rattle.detection.specs.Tables.{flagged}
 use Rattle.control.proofs.RunLaws.{pass-counts}
 use borrow.Author.Needs.{needs}
 use Rattle.control.proofs.passes.pass.Statement.{statement}
@@ -16,9 +15,9 @@ same-length c = search needs
 
 returns : tie.Need-returns
 returns c =
-    let s = c .before .before .before .before .before .before in
-    let k = c .before .before .cancel .ensures in
-    (pass-counts (s .args .book .now) (s .args .day) (flagged (s .args .flags .now)) (c .before .before .before .before .count-flags .ensures) (k .0), k .1)
+    let cancelled = c .before .before in
+    let counted = cancelled .before .before in
+    (pass-counts _ _ _ (counted .count-flags .ensures) (cancelled .cancel .ensures .0), cancelled .cancel .ensures .1)
 
 pub pass-spec : {M : Type 1} → statement M
 pass-spec = tie.close (tie.spec count-flags-requires cancel-requires same-length returns)

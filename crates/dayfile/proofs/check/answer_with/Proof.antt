@@ -1,18 +1,35 @@
 -- `dayfile::check::answer_with` meets its contract. Assumes nothing.
-use mathlib.Core.Path.{_∙_}
-use Rattle.rules.specs.Words.{entries}
+use mathlib.Core.Path.{_≡_, _∙_}
+use mathlib.Core.Bool.{true}
+use Rattle.rules.specs.Words.{isBook, entries}
+use Rattle.rules.specs.DayFile.{isFile, items}
+use Rattle.rules.specs.declared.FileRead.{FileRead}
+use Rattle.dayfile.specs.Check.{scanned}
 use Rattle.words.proofs.BookCode.{book-long}
 use Rattle.dayfile.proofs.AnswerLaws.{TableOf, file-bytes, answer-refused, answer-full, answer-done}
 use borrow.Author.Needs.{needs}
 use Rattle.dayfile.proofs.check.answer_with.Statement.{statement}
 use Rattle.dayfile.proofs.check.answer_with.Tie as tie
 
-abbrev entry : tie.After-close-days → tie.Start
-entry k = k .before .before .before .before .before
+-- the places, from each back to the one before
+abbrev start : tie.After-close-days → tie.Start
+start k = k .before .before .before .before .before
 
--- what the pass over the book leaves in the table
-table : (k : tie.After-close-days) → TableOf (k .close-days .last .1 .0) (entries (entry k .args .book .now))
-table k d h = k .close-days .ensures d h ∙ rw (entry k .pre .1 .1 .1 d h)
+abbrev closed : tie.After-scan → tie.After-close-days
+closed n = n .before .before .before .before
+
+abbrev counted : tie.After-room → tie.After-count-of
+counted r = r .before .before
+
+-- what a law tells of the scan, with the table that the pass over the book left
+by-scan : {A : FileRead → Type 0} (n : tie.After-scan) →
+    let ws = start (closed n) .args .book .now in
+    let bs = start (closed n) .args .file .now in
+    let cs = closed n .close-days .last .1 .0 in
+    (isBook ws ≡ true → isFile bs ≡ true → TableOf cs (entries ws) → (r : FileRead) → r ≡ scanned cs (items bs) → A r) → A (n .scan .result)
+by-scan n law =
+    let p = start (closed n) .pre in
+    law (p .0) (p .1 .0) (λ d h. closed n .close-days .ensures d h ∙ rw (p .1 .1 .1 d h)) (n .scan .result) (n .scan .ensures)
 
 close-days-requires : tie.Need-close-days-requires
 close-days-requires c κs = search needs
@@ -20,19 +37,16 @@ close-days-requires c κs = search needs
 scan-requires : tie.Need-scan-requires
 scan-requires c κs =
     let k = c .before .before .before in
-    (file-bytes _ (entry k .pre .1 .0), k .close-days .kept .1 .0 ∙ entry k .pre .1 .1 .0)
+    (file-bytes _ (start k .pre .1 .0), k .close-days .kept .1 .0 ∙ start k .pre .1 .1 .0)
 
 same-length : tie.Need-same-length
 same-length c = search needs
 
 returns : tie.Need-returns
-returns c =
-    let n = c .before .before in
-    let k = n .before .before .before .before in
-    answer-refused _ _ _ (entry k .pre .0) (entry k .pre .1 .0) (table k) (n .scan .ensures) (c .if1 .taken)
+returns c = by-scan (c .before .before) (answer-refused _ _ _) (c .if1 .taken)
 
 count-of-requires : tie.Need-count-of-requires
-count-of-requires c κs = book-long _ (entry (c .before .before .before .before .before .before) .pre .0)
+count-of-requires c κs = search book-long
 
 cast-used : tie.Need-cast-used
 cast-used c = search needs
@@ -54,19 +68,18 @@ same-length-2 c = search needs
 
 returns-2 : tie.Need-returns-2
 returns-2 c =
-    let i = c .before in
-    let n = i .before .before .before .before .before .before in
-    let k = n .before .before .before .before in
-    c .refused .ensures ∙ answer-full _ _ _ (entry k .pre .0) (entry k .pre .1 .0) (table k) (n .scan .ensures) (i .before .before .before .before .if1 .left) (rw (← i .before .before .before .count-of .ensures, ← i .before .room .ensures) (i .if2 .taken))
+    let r = c .before .before in
+    let e = counted r .before in
+    c .refused .ensures ∙ by-scan (e .before .before) (answer-full _ _ _) (e .if1 .left) (rw (← counted r .count-of .ensures, ← r .room .ensures) (c .before .if2 .taken))
 
 same-length-3 : tie.Need-same-length-3
 same-length-3 c = search needs
 
 returns-3 : tie.Need-returns-3
 returns-3 c =
-    let n = c .before .before .before .before .before .before in
-    let k = n .before .before .before .before in
-    answer-done _ _ _ (entry k .pre .0) (entry k .pre .1 .0) (table k) (n .scan .ensures) (c .before .before .before .before .if1 .left) (rw (← c .before .before .before .count-of .ensures, ← c .before .room .ensures) (c .if2 .left))
+    let r = c .before in
+    let e = counted r .before in
+    by-scan (e .before .before) (answer-done _ _ _) (e .if1 .left) (rw (← counted r .count-of .ensures, ← r .room .ensures) (c .if2 .left))
 
 pub answer-with-spec : {M : Type 1} → statement M
 answer-with-spec =

@@ -1,20 +1,16 @@
 -- `dayfile::check::close_days` meets its contract. The loop's invariant: a day is closed in the whole if it is closed in the table or among the entries to come. Assumes nothing.
-use mathlib.Core.Path.{refl}
-use mathlib.Core.Bool.{or-false}
-use Rattle.rules.specs.Entry.{dayPlaces}
-use Rattle.numbers.specs.Tests.{any}
-use Rattle.rules.specs.Words.{decode, countOf}
-use Rattle.rules.specs.Book.{isMarkOf}
-use Rattle.file_walk.proofs.WalkLaws.{table-step}
-use mathlib.Core.Path.{_≡_, sym, _∙_}
-use mathlib.Core.Bool.{false, _||_}
+use mathlib.Core.Path.{_≡_, refl, sym, _∙_}
+use mathlib.Core.Bool.{false, _||_, or-false}
 use Prim.Native.Nat.{ℕ, _≤_, _<_, _+_, _*_, _-_, zero-le}
 use native.Mathlib.Nat.{sub-zero}
 use native.Mathlib.Omega.{arith}
 use lib.ListN.{length, getD, drop}
-use Rattle.rules.specs.Words.{entries, readEntries}
-use Rattle.rules.specs.Book.{isClosed}
+use Rattle.numbers.specs.Tests.{any}
+use Rattle.rules.specs.Entry.{dayPlaces}
+use Rattle.rules.specs.Words.{decode, entries, readEntries}
+use Rattle.rules.specs.Book.{isMarkOf, isClosed}
 use Rattle.words.proofs.BookCode.{book-long, book-entry, closed-from}
+use Rattle.file_walk.proofs.WalkLaws.{table-step}
 use borrow.Author.Needs.{needs}
 use Rattle.dayfile.proofs.check.close_days.Statement.{statement}
 use Rattle.dayfile.proofs.check.close_days.Tie as tie
@@ -27,17 +23,19 @@ Inv-loop book closed₀ count i₀ closed i =
 abbrev μ-loop : tie.MeasureT-loop
 μ-loop book closed₀ count i₀ closed i = count - i
 
+-- from a turn of the loop back to the start
+abbrev start : tie.At-loop Inv-loop μ-loop → tie.Start Inv-loop μ-loop
+start l = l .before .before .before .before
+
 count-of-requires : tie.Need-count-of-requires Inv-loop μ-loop
-count-of-requires c κs = book-long _ (c .before .before .pre .0)
+count-of-requires c κs = search book-long
 
 cast-count : tie.Need-cast-count Inv-loop μ-loop
 cast-count c = search needs
 
 loop-holds : tie.Need-loop-holds Inv-loop μ-loop
 unfolding entries
-loop-holds c =
-    let b = c .before .before .before in
-    (zero-le, refl, λ d _. rw (c .count-of .ensures, sub-zero (countOf (b .args .book .now))))
+loop-holds c = (zero-le, refl, λ d _. rw (c .count-of .ensures, sub-zero))
 
 mul-close-at : tie.Need-mul-close-at Inv-loop μ-loop
 mul-close-at c = search needs
@@ -48,9 +46,9 @@ add-close-at c = search needs
 close-at-requires : tie.Need-close-at-requires Inv-loop μ-loop
 close-at-requires c κs =
     let l = c .before .before in
-    let b = l .before .before .before .before in
-    let e = book-entry (b .args .book .now) (b .pre .0) (l .loop .i) (rw (← l .before .count-of .ensures) (c .before .loop-test .taken)) in
-    (e .within, (e .ok, l .loop .inv .1 ∙ b .pre .1))
+    let s = start l in
+    let e = book-entry (s .args .book .now) (s .pre .0) (l .loop .i) (rw (← l .before .count-of .ensures) (c .before .loop-test .taken)) in
+    (e .within, (e .ok, l .loop .inv .1 ∙ s .pre .1))
 
 add-i : tie.Need-add-i Inv-loop μ-loop
 add-i c = search needs
@@ -61,14 +59,14 @@ loop-less c = search needs
 loop-again : tie.Need-loop-again Inv-loop μ-loop
 loop-again c =
     let k = c .before .before in
-    let l = k .before .before .before in
-    let b = l .before .before .before .before in
+    let t = k .before .before in
+    let l = t .before in
     let n = l .before .count-of .result in
-    let ws = b .args .book .now in
+    let ws = start l .args .book .now in
     let i = l .loop .i in (
       search needs,
       k .close-at .kept .1 .1 .0 ∙ l .loop .inv .1,
-      λ d h. table-step (getD (l .loop .closed) d false) (isMarkOf d (decode (drop (3 + 5 * i) ws))) (isClosed d (readEntries (n - (i + 1)) (drop (3 + 5 * (i + 1)) ws))) (l .loop .inv .2 d h) (closed-from d n ws i (k .before .before .loop-test .taken)) (k .close-at .ensures d h),
+      λ d h. table-step (getD (l .loop .closed) d false) (isMarkOf d (decode (drop (3 + 5 * i) ws))) (isClosed d (readEntries (n - (i + 1)) (drop (3 + 5 * (i + 1)) ws))) (l .loop .inv .2 d h) (closed-from d n ws i (t .loop-test .taken)) (k .close-at .ensures d h),
     )
 
 same-length : tie.Need-same-length Inv-loop μ-loop

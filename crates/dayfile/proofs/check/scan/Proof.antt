@@ -1,10 +1,11 @@
 -- `dayfile::check::scan` meets its contract. The loop's invariant: the first cause of the file is that of what is left, and its lines are those counted and those left. Assumes nothing.
 use mathlib.Core.Path.{_≡_, refl, sym, _∙_}
+use mathlib.Core.Bool.{true}
 use Prim.Native.Nat.{_≤_, _+_, _-_, zero-le}
 use native.Mathlib.Omega.{arith}
 use lib.ListN.{length}
 use Rattle.rules.specs.DayFile.{items, linesOf}
-use Rattle.file_walk.specs.Walk.{leftItems}
+use Rattle.file_walk.specs.Walk.{isMore, leftItems}
 use Rattle.dayfile.specs.Check.{firstCause}
 use Rattle.file_walk.proofs.WalkLaws.{items-end, past-within, walk-less}
 use Rattle.dayfile.proofs.CheckLaws.{cause-stops, cause-goes-on, lines-step, lines-at-most, scan-refused, scan-done}
@@ -22,6 +23,18 @@ Inv-loop file closed c₀ lines₀ c lines =
 abbrev μ-loop : tie.MeasureT-loop
 μ-loop file closed c₀ lines₀ c lines = length file - c .at
 
+-- with more to read: the turn, and the test
+module _ (t : tie.Then1 Inv-loop μ-loop) where
+  abbrev turn : tie.At-loop Inv-loop μ-loop
+  turn = t .before .before
+
+  more : isMore (turn .before .before .before .before .args .file .now) (turn .loop .c) ≡ true
+  more = sym (t .before .more .ensures) ∙ t .if1 .taken
+
+-- from the lines counted back to the test for more
+abbrev reading : tie.After-lines-at Inv-loop μ-loop → tie.Then1 Inv-loop μ-loop
+reading n = n .before .before .before
+
 begin-requires : tie.Need-begin-requires Inv-loop μ-loop
 begin-requires c κs = search needs
 
@@ -33,55 +46,45 @@ more-requires : tie.Need-more-requires Inv-loop μ-loop
 more-requires c κs = c .loop .inv .0
 
 cause-at-requires : tie.Need-cause-at-requires Inv-loop μ-loop
-cause-at-requires c κs = (sym (c .before .more .ensures) ∙ c .if1 .taken, c .before .before .before .before .before .before .pre .1)
+cause-at-requires c κs = search more
 
 returns : tie.Need-returns Inv-loop μ-loop
 returns c =
     let t = c .before .before in
-    let l = t .before .before in
-    let b = l .before .before .before .before .args in
-    let m = sym (t .before .more .ensures) ∙ t .if1 .taken in
-    scan-refused (b .closed .now) (items (b .file .now)) _ (l .loop .inv .2 ∙ cause-stops (b .file .now) (l .loop .c) m (b .closed .now) (c .before .cause-at .ensures) (c .if2 .taken)) (c .if2 .taken)
+    scan-refused _ _ _ (turn t .loop .inv .2 ∙ cause-stops _ _ (more t) _ (c .before .cause-at .ensures) (c .if2 .taken)) (c .if2 .taken)
 
 lines-at-requires : tie.Need-lines-at-requires Inv-loop μ-loop
 lines-at-requires c κs = search needs
 
 add-lines : tie.Need-add-lines Inv-loop μ-loop
-add-lines c =
-    let l = c .before .before .before .before .before in
-    rw (c .lines-at .ensures) (omega (arith, lines-at-most (l .loop .c), l .loop .inv .0, l .loop .inv .1, l .before .before .before .before .pre .0))
+add-lines c = rw (c .lines-at .ensures) (omega (arith, lines-at-most (turn (reading c) .loop .c)))
 
 advance-requires : tie.Need-advance-requires Inv-loop μ-loop
-advance-requires c κs = sym (c .before .before .before .before .more .ensures) ∙ c .before .before .before .if1 .taken
+advance-requires c κs = search more
 
 loop-less : tie.Need-loop-less Inv-loop μ-loop
-loop-less c =
-    let t = c .before .before .before .before in
-    walk-less _ (t .before .before .loop .c) (t .before .more .ensures) (t .if1 .taken) (c .advance .ensures)
+loop-less c = search walk-less
 
 loop-again : tie.Need-loop-again Inv-loop μ-loop
 loop-again c =
     let n = c .before in
     let e = n .before in
-    let t = e .before .before in
-    let l = t .before .before in
-    let b = l .before .before .before .before .args in
-    let m = sym (t .before .more .ensures) ∙ t .if1 .taken in
-    let w = past-within (b .file .now) (l .loop .c) m in
+    let t = reading n in
+    let v = turn t .loop .inv in
+    let w = past-within _ _ (more t) in
     rw (c .advance .ensures, n .lines-at .ensures) (
       w .1,
-      omega (arith, lines-at-most (l .loop .c), w .0),
-      l .loop .inv .2 ∙ cause-goes-on (b .file .now) (l .loop .c) m (b .closed .now) (e .before .cause-at .ensures) (e .if2 .left),
-      omega (arith, l .loop .inv .3, lines-step (b .file .now) (l .loop .c) m),
+      omega (arith, lines-at-most (turn t .loop .c), w .0),
+      v .2 ∙ cause-goes-on _ _ (more t) _ (e .before .cause-at .ensures) (e .if2 .left),
+      omega (arith, v .3, lines-step _ _ (more t)),
     )
 
 returns-2 : tie.Need-returns-2 Inv-loop μ-loop
 unfolding linesOf
 returns-2 c =
     let l = c .before .before in
-    let b = l .before .before .before .before .args in
-    let e = items-end (b .file .now) (l .loop .c) (sym (c .before .more .ensures) ∙ c .if1 .left) in
-    scan-done (b .closed .now) (items (b .file .now)) (l .loop .inv .2 ∙ rw e) (l .loop .inv .3 ∙ rw e (omega arith))
+    let e = items-end _ _ (sym (c .before .more .ensures) ∙ c .if1 .left) in
+    scan-done _ _ (l .loop .inv .2 ∙ rw e) (l .loop .inv .3 ∙ rw e (omega arith))
 
 pub scan-spec : {M : Type 1} → statement M
 scan-spec =

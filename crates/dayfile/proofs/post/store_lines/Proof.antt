@@ -7,7 +7,7 @@ use lib.ListN.{length}
 use Rattle.numbers.specs.Tests.{all}
 use Rattle.rules.specs.Entry.{legal}
 use Rattle.rules.specs.DayFile.{items, linesOf}
-use Rattle.file_walk.specs.Walk.{leftItems}
+use Rattle.file_walk.specs.Walk.{isMore, leftItems}
 use Rattle.dayfile.specs.Check.{storedFrom}
 use Rattle.file_walk.proofs.WalkLaws.{items-end, past-within, walk-less}
 use Rattle.dayfile.proofs.CheckLaws.{lines-step}
@@ -27,6 +27,14 @@ Inv-loop book₀ file number c₀ place₀ book c place =
 abbrev μ-loop : tie.MeasureT-loop
 μ-loop book₀ file number c₀ place₀ book c place = length file - c .at
 
+-- with more to read: the turn, and the test
+module _ (t : tie.Then1 Inv-loop μ-loop) where
+  abbrev turn : tie.At-loop Inv-loop μ-loop
+  turn = t .before .before
+
+  more : isMore (turn .before .before .before .before .args .file .now) (turn .loop .c) ≡ true
+  more = sym (t .before .more .ensures) ∙ t .if1 .taken
+
 begin-requires : tie.Need-begin-requires Inv-loop μ-loop
 begin-requires c κs = search needs
 
@@ -38,9 +46,7 @@ add-place c = search needs
 
 loop-holds : tie.Need-loop-holds Inv-loop μ-loop
 unfolding items
-loop-holds c =
-    let s = c .before .before .before in
-    rw (c .begin .ensures) (zero-le, refl, omega arith, s .pre .1, refl)
+loop-holds c = rw (c .begin .ensures) (zero-le, refl, omega arith, search needs, refl)
 
 more-requires : tie.Need-more-requires Inv-loop μ-loop
 more-requires c κs = c .loop .inv .0
@@ -48,32 +54,25 @@ more-requires c κs = c .loop .inv .0
 store-at-requires : tie.Need-store-at-requires Inv-loop μ-loop
 store-at-requires c κs =
     let t = c .before in
-    let l = t .before .before in
-    let f = l .before .before .before .before .args .file .now in
-    let m = sym (t .before .more .ensures) ∙ t .if1 .taken in
-    (m, (omega (arith, lines-step f (l .loop .c) m), legal-step f (l .loop .c) m (l .loop .inv .3) .0))
+    (more t, (omega (arith, lines-step _ _ (more t)), legal-step _ _ (more t) (turn t .loop .inv .3) .0))
 
 advance-requires : tie.Need-advance-requires Inv-loop μ-loop
-advance-requires c κs = sym (c .before .before .before .before .before .more .ensures) ∙ c .before .before .before .before .if1 .taken
+advance-requires c κs = search more
 
 loop-less : tie.Need-loop-less Inv-loop μ-loop
-loop-less c =
-    let t = c .before .before .before .before .before in
-    walk-less _ (t .before .before .loop .c) (t .before .more .ensures) (t .if1 .taken) (c .advance .ensures)
+loop-less c = search walk-less
 
 loop-again : tie.Need-loop-again Inv-loop μ-loop
 loop-again c =
     let k = c .before .before .before in
     let t = k .before .before in
-    let l = t .before .before in
-    let f = l .before .before .before .before .args .file .now in
-    let m = sym (t .before .more .ensures) ∙ t .if1 .taken in
+    let l = turn t .loop in
     rw (c .advance .ensures, k .store-at .ensures .0) (
-      past-within f (l .loop .c) m .1,
-      k .store-at .kept .0 ∙ l .loop .inv .1,
-      omega (arith, l .loop .inv .2, lines-step f (l .loop .c) m),
-      legal-step f (l .loop .c) m (l .loop .inv .3) .1,
-      l .loop .inv .4 ∙ stored-step f (l .loop .c) m (l .loop .book) (l .loop .place) ∙ rw (← k .store-at .ensures .1),
+      past-within _ _ (more t) .1,
+      k .store-at .kept .0 ∙ l .inv .1,
+      omega (arith, l .inv .2, lines-step _ _ (more t)),
+      legal-step _ _ (more t) (l .inv .3) .1,
+      l .inv .4 ∙ stored-step _ _ (more t) (l .book) (l .place) ∙ rw (← k .store-at .ensures .1),
     )
 
 same-length : tie.Need-same-length Inv-loop μ-loop
@@ -83,8 +82,7 @@ returns : tie.Need-returns Inv-loop μ-loop
 unfolding storedFrom
 returns c =
     let l = c .before .before in
-    let f = l .before .before .before .before .args .file .now in
-    sym (l .loop .inv .4 ∙ rw (items-end f (l .loop .c) (sym (c .before .more .ensures) ∙ c .if1 .left)))
+    sym (l .loop .inv .4 ∙ rw (items-end _ _ (sym (c .before .more .ensures) ∙ c .if1 .left)))
 
 pub store-lines-spec : {M : Type 1} → statement M
 store-lines-spec =

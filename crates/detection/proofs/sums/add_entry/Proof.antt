@@ -1,7 +1,9 @@
 -- `detection::sums::add_entry` meets its contract. Assumes nothing.
-use mathlib.Core.Path.{sym}
+use mathlib.Core.Path.{_≡_, sym}
 use native.Mathlib.Omega.{arith}
-use Rattle.rules.specs.Entry.{recordIn}
+use Rattle.rules.specs.Entry.{key, recordIn}
+use Rattle.cells.specs.Cells.{addTo}
+use Rattle.detection.specs.Tables.{sumCell}
 use Rattle.entry_checks.proofs.Ladder.{passed, failed}
 use Rattle.detection.proofs.TableLaws.{Counted, counted-facts, not-counted, add-fits, add-fits-again, sum-only, sum-and-bought}
 use borrow.Author.Needs.{needs}
@@ -9,16 +11,28 @@ use Rattle.detection.proofs.sums.add_entry.Statement.{statement}
 use Rattle.detection.proofs.sums.add_entry.Tie as tie
 
 -- past the test: the entry counts
-facts : (c : tie.Else1) → Counted (c .before .before .args .day) (recordIn (c .before .before .args .e))
-facts c =
-    let s = c .before .before in
-    counted-facts (s .args .day) (recordIn (s .args .e)) (s .pre .0) (passed (c .before .counts .ensures) (c .if1 .left))
+module _ (e : tie.Else1) where
+  abbrev start : tie.Start
+  start = e .before .before
+
+  facts : Counted (start .args .day) (recordIn (start .args .e))
+  facts = search (counted-facts, passed)
+
+-- with its own cell added to: the place of its sum
+abbrev placed : tie.After-add-to → tie.After-sum-place
+placed o = o .before .before .before
+
+own-added : (o : tie.After-add-to) →
+    let a = start (placed o .before) .args in
+    let r = recordIn (a .e) in
+    o .add-to .last .0 ≡ addTo (a .table .now) (sumCell (key r .party) (key r .type)) (r .amount)
+own-added o = rw (placed o .sum-place .ensures) at (o .add-to .ensures)
 
 counts-requires : tie.Need-counts-requires
 counts-requires c κs = search needs
 
 returns : tie.Need-returns
-returns c = let a = c .before .before .args in sym (not-counted (a .day) (recordIn (a .e)) (a .table .now) (failed (c .before .counts .ensures) (c .if1 .taken)))
+returns c = sym (not-counted _ _ _ (failed (c .before .counts .ensures) (c .if1 .taken)))
 
 sum-place-requires : tie.Need-sum-place-requires
 sum-place-requires c κs = facts c .facts .volume
@@ -34,9 +48,9 @@ add-add-to c = search needs
 
 add-to-requires : tie.Need-add-to-requires
 add-to-requires c κs =
-    let e = c .before .before .before in
-    let f = facts e in
-    add-fits (e .before .before .args .table .now) _ _ (e .before .before .pre .1) (omega (arith, c .before .before .sum-place .ensures)) (f .amount)
+    let p = c .before .before in
+    let f = facts (p .before) in
+    add-fits _ _ _ (start (p .before) .pre .1) (omega (arith, p .sum-place .ensures)) (f .amount)
 
 cast-add-to-2 : tie.Need-cast-add-to-2
 cast-add-to-2 c = search needs
@@ -49,26 +63,16 @@ add-add-to-2 c = search needs
 
 add-to-requires-2 : tie.Need-add-to-requires-2
 add-to-requires-2 c κs =
-    let own = c .before .before .before .before in
-    let p = own .before .before .before in
-    let e = p .before in
+    let o = c .before .before .before .before in
+    let e = placed o .before in
     let f = facts e in
-    add-fits-again (e .before .before .args .table .now) _ _ _ _ (own .add-to .ensures) (λ q. omega (arith, q, p .sum-place .ensures)) (e .before .before .pre .1) (omega arith) (f .amount)
+    add-fits-again _ _ _ _ _ (o .add-to .ensures) (λ q. omega (arith, q, placed o .sum-place .ensures)) (start e .pre .1) (omega arith) (f .amount)
 
 returns-2 : tie.Need-returns-2
-returns-2 c =
-    let b = c .before .before .before in
-    let p = b .before .before .before .before .before in
-    let e = p .before in
-    let a = e .before .before .args in
-    sum-and-bought (a .day) (recordIn (a .e)) (a .table .now) (passed (e .before .counts .ensures) (e .if1 .left)) (b .if2 .taken) (rw (p .sum-place .ensures) at (b .before .before .add-to .ensures)) (c .add-to2 .ensures)
+returns-2 c = search (sum-and-bought, passed, own-added)
 
 returns-3 : tie.Need-returns-3
-returns-3 c =
-    let p = c .before .before .before .before .before in
-    let e = p .before in
-    let a = e .before .before .args in
-    sum-only (a .day) (recordIn (a .e)) (a .table .now) (passed (e .before .counts .ensures) (e .if1 .left)) (c .if2 .left) (rw (p .sum-place .ensures) at (c .before .before .add-to .ensures))
+returns-3 c = search (sum-only, passed, own-added, c .if2 .left)
 
 pub add-entry-spec : {M : Type 1} → statement M
 add-entry-spec =

@@ -8,10 +8,7 @@ use Rattle.host.proofs.books.fanzsoreb_open.Statement.{statement}
 use Rattle.host.proofs.books.fanzsoreb_open.Tie as tie
 
 returns : tie.Need-returns
-returns c =
-    let a = c .before .before .args in
-    let o = open-odd (a .book .now) (a .coefficient) (a .tolerance) (c .if1 .taken) in
-    (o .0, o .1)
+returns c = open-odd _ _ _ (c .if1 .taken)
 
 slice-aggregate-decode : tie.Need-slice-aggregate-decode
 slice-aggregate-decode c = search needs
@@ -42,14 +39,15 @@ same-length c = search needs
 
 returns-2 : tie.Need-returns-2
 returns-2 c =
-    let p = c .before .before .before .before .before .before in
-    let d = p .before .before .before .decode in
-    let s = p .before .before .before .before .before .before .before .before in
-    let R = s .args .coefficient in
-    let TM = s .args .tolerance in (
-      p .«open» .ensures .0 ∙ on-open (d .ensures) R TM (eq-eqb _ _ (p .before .before .before .before .before .before .if1 .left)),
-      c .before .before .write-back .ensures
-          ∙ open-bytes (λ i. p .before .before .before .before .before .before .before .slice-known .given i .fits) (d .ensures) (d .kept .1 .0) (p .«open» .kept .0) R TM (p .«open» .ensures .1) (p .«open» .ensures .0),
+    let written = c .before .before in
+    let opened = written .before .before .before .before in
+    let decoded = opened .before .before .before in
+    let whole = decoded .before .before .before in
+    let d = decoded .decode in
+    let o = opened .«open» in (
+      o .ensures .0 ∙ on-open (d .ensures) _ _ (eq-eqb _ _ (whole .if1 .left)),
+      written .write-back .ensures
+          ∙ open-bytes (λ i. whole .before .slice-known .given i .fits) (d .ensures) (d .kept .1 .0) (o .kept .0) _ _ (o .ensures .1) (o .ensures .0),
     )
 
 pub fanzsoreb-open-spec : {M : Type 1} → statement M

@@ -1,8 +1,8 @@
 -- `host::books::fanzsoreb_post` meets its contract. Assumes nothing.
 use mathlib.Core.Path.{_∙_, ap}
 use borrow.Author.Needs.{needs}
-use Rattle.rules.specs.Entry.{Key, keyOf}
-use Rattle.rules.specs.Calls.{Change, post}
+use Rattle.rules.specs.Entry.{keyOf}
+use Rattle.rules.specs.Calls.{post}
 use Rattle.word_bytes.proofs.CodingLaws.{parts}
 use Rattle.word_bytes.proofs.CallLaws.{on-change, change-bytes}
 use Rattle.host.proofs.books.fanzsoreb_post.Statement.{statement}
@@ -37,14 +37,15 @@ same-length c = search needs
 
 returns : tie.Need-returns
 returns c =
-    let p = c .before .before .before .before .before .before in
-    let d = p .before .before .before .decode in
-    let s = p .before .before .before .before .before .before .before in
-    let k : Key = keyOf (s .args .party) (s .args .day) (s .args .entry-type) (s .args .counterparty) in
-    let call : Change = post k (s .args .amount) in (
-      p .post .ensures .0 ∙ on-change (d .ensures) call (λ cause f. record { answer = cause; number = f .number }),
-      c .before .before .write-back .ensures
-          ∙ change-bytes (λ i. p .before .before .before .before .before .before .slice-known .given i .fits) (d .ensures) (d .kept .1 .0) (p .post .kept .0) call (p .post .ensures .1) (ap (λ r. r .answer) (p .post .ensures .0)),
+    let written = c .before .before in
+    let posted = written .before .before .before .before in
+    let decoded = posted .before .before .before in
+    let lent = decoded .before .before .before in
+    let a = lent .before .args in
+    let d = decoded .decode in (
+      posted .post .ensures .0 ∙ on-change (d .ensures) (post (keyOf (a .party) (a .day) (a .entry-type) (a .counterparty)) (a .amount)) (λ cause f. record { answer = cause; number = f .number }),
+      written .write-back .ensures
+          ∙ change-bytes (λ i. lent .slice-known .given i .fits) (d .ensures) (d .kept .1 .0) (posted .post .kept .0) _ (posted .post .ensures .1) (ap (λ r. r .answer) (posted .post .ensures .0)),
     )
 
 pub fanzsoreb-post-spec : {M : Type 1} → statement M

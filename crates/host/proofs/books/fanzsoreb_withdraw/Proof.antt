@@ -1,7 +1,7 @@
 -- `host::books::fanzsoreb_withdraw` meets its contract. Assumes nothing.
 use mathlib.Core.Path.{_∙_}
 use borrow.Author.Needs.{needs}
-use Rattle.rules.specs.Calls.{Change, withdraw}
+use Rattle.rules.specs.Calls.{withdraw}
 use Rattle.word_bytes.proofs.CodingLaws.{parts}
 use Rattle.word_bytes.proofs.CallLaws.{on-change, change-bytes}
 use Rattle.host.proofs.books.fanzsoreb_withdraw.Statement.{statement}
@@ -36,13 +36,15 @@ same-length c = search needs
 
 returns : tie.Need-returns
 returns c =
-    let p = c .before .before .before .before .before .before in
-    let d = p .before .before .before .decode in
-    let s = p .before .before .before .before .before .before .before in
-    let call : Change = withdraw (s .args .number) in (
-      p .withdraw .ensures .0 ∙ on-change (d .ensures) call (λ cause f. cause),
-      c .before .before .write-back .ensures
-          ∙ change-bytes (λ i. p .before .before .before .before .before .before .slice-known .given i .fits) (d .ensures) (d .kept .1 .0) (p .withdraw .kept .0) call (p .withdraw .ensures .1) (p .withdraw .ensures .0),
+    let written = c .before .before in
+    let withdrawn = written .before .before .before .before in
+    let decoded = withdrawn .before .before .before in
+    let lent = decoded .before .before .before in
+    let a = lent .before .args in
+    let d = decoded .decode in (
+      withdrawn .withdraw .ensures .0 ∙ on-change (d .ensures) (withdraw (a .number)) (λ cause f. cause),
+      written .write-back .ensures
+          ∙ change-bytes (λ i. lent .slice-known .given i .fits) (d .ensures) (d .kept .1 .0) (withdrawn .withdraw .kept .0) _ (withdrawn .withdraw .ensures .1) (withdrawn .withdraw .ensures .0),
     )
 
 pub fanzsoreb-withdraw-spec : {M : Type 1} → statement M

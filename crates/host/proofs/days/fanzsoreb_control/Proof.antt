@@ -1,7 +1,7 @@
 -- `host::days::fanzsoreb_control` meets its contract. Assumes nothing.
 use mathlib.Core.Path.{_∙_, ap}
 use borrow.Author.Needs.{needs}
-use Rattle.rules.specs.Calls.{Change, control}
+use Rattle.rules.specs.Calls.{control}
 use Rattle.word_bytes.proofs.CodingLaws.{parts}
 use Rattle.word_bytes.proofs.CallLaws.{on-change, change-bytes}
 use Rattle.host.proofs.days.fanzsoreb_control.Statement.{statement}
@@ -36,13 +36,15 @@ same-length c = search needs
 
 returns : tie.Need-returns
 returns c =
-    let p = c .before .before .before .before .before .before in
-    let d = p .before .before .before .decode in
-    let s = p .before .before .before .before .before .before .before in
-    let call : Change = control (s .args .day) in (
-      p .control .ensures .0 ∙ on-change (d .ensures) call (λ cause f. record { answer = cause; first = f .first; second = f .second; cancelled = f .cancelled }),
-      c .before .before .write-back .ensures
-          ∙ change-bytes (λ i. p .before .before .before .before .before .before .slice-known .given i .fits) (d .ensures) (d .kept .1 .0) (p .control .kept .0) call (p .control .ensures .1) (ap (λ r. r .answer) (p .control .ensures .0)),
+    let written = c .before .before in
+    let controlled = written .before .before .before .before in
+    let decoded = controlled .before .before .before in
+    let lent = decoded .before .before .before in
+    let a = lent .before .args in
+    let d = decoded .decode in (
+      controlled .control .ensures .0 ∙ on-change (d .ensures) (control (a .day)) (λ cause f. record { answer = cause; first = f .first; second = f .second; cancelled = f .cancelled }),
+      written .write-back .ensures
+          ∙ change-bytes (λ i. lent .slice-known .given i .fits) (d .ensures) (d .kept .1 .0) (controlled .control .kept .0) _ (controlled .control .ensures .1) (ap (λ r. r .answer) (controlled .control .ensures .0)),
     )
 
 pub fanzsoreb-control-spec : {M : Type 1} → statement M

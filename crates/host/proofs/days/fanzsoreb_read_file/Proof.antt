@@ -1,7 +1,7 @@
 -- `host::days::fanzsoreb_read_file` meets its contract. Assumes nothing.
 use mathlib.Core.Path.{_∙_, ap}
 use borrow.Author.Needs.{needs}
-use Rattle.rules.specs.Calls.{Change, file}
+use Rattle.rules.specs.Calls.{file}
 use Rattle.word_bytes.proofs.CodingLaws.{parts}
 use Rattle.word_bytes.proofs.CallLaws.{on-change, change-bytes}
 use Rattle.host.proofs.days.fanzsoreb_read_file.Statement.{statement}
@@ -36,13 +36,15 @@ same-length c = search needs
 
 returns : tie.Need-returns
 returns c =
-    let p = c .before .before .before .before .before .before in
-    let d = p .before .before .before .decode in
-    let s = p .before .before .before .before .before .before .before .before in
-    let call : Change = file (s .args .file .now) in (
-      p .read-file .ensures .0 ∙ on-change (d .ensures) call (λ cause f. record { answer = cause; posted = f .lines }),
-      c .before .before .write-back .ensures
-          ∙ change-bytes (λ i. p .before .before .before .before .before .before .before .slice-known .given i .fits) (d .ensures) (d .kept .1 .0) (p .read-file .kept .0) call (p .read-file .ensures .1) (ap (λ r. r .answer) (p .read-file .ensures .0)),
+    let written = c .before .before in
+    let filed = written .before .before .before .before in
+    let decoded = filed .before .before .before in
+    let lent = decoded .before .before .before .before in
+    let a = lent .before .args in
+    let d = decoded .decode in (
+      filed .read-file .ensures .0 ∙ on-change (d .ensures) (file (a .file .now)) (λ cause f. record { answer = cause; posted = f .lines }),
+      written .write-back .ensures
+          ∙ change-bytes (λ i. lent .slice-known .given i .fits) (d .ensures) (d .kept .1 .0) (filed .read-file .kept .0) _ (filed .read-file .ensures .1) (ap (λ r. r .answer) (filed .read-file .ensures .0)),
     )
 
 pub fanzsoreb-read-file-spec : {M : Type 1} → statement M
