@@ -1,5 +1,5 @@
 -- `book::post_cause` meets its contract. Assumes nothing.
-use mathlib.Core.Path.{_≡_, sym, _∙_}
+use mathlib.Core.Path.{_≡_, sym}
 use mathlib.Core.Bool.{true, false}
 use mathlib.Core.List.{List}
 use Prim.Native.Nat.{ℕ, _<_, _≤_}
@@ -12,14 +12,10 @@ use Rattle.rules.specs.Words.{isBook, entries, countOf, roomIn}
 use Rattle.rules.specs.Book.{shutTo}
 use Rattle.rules.specs.Calls.{post, causeOf}
 use Rattle.rules.proofs.CallLaws.{post-cause}
-use Rattle.entry_checks.proofs.Ladder.{passed, failed}
+use Rattle.entry_checks.proofs.Ladder.{passed, failed, told, told-full, told-room}
 use Rattle.words.proofs.BookCode.{book-long}
 use Rattle.book.proofs.post_cause.Statement.{statement}
 use Rattle.book.proofs.post_cause.Tie as tie
-
--- what a call's result tells of its value
-told : {A : Type 0} {r t v : A} → r ≡ t → r ≡ v → t ≡ v
-told e h = sym e ∙ h
 
 -- why it comes back
 module _ (ws : List ℕ) (k : Key) (a : ℕ) where
@@ -32,11 +28,11 @@ module _ (ws : List ℕ) (k : Key) (a : ℕ) where
   cause-shut : isBook ws ≡ true → fault k a ≡ 0 → shutTo k (entries ws) ≡ true → 8 ≡ causeOf ws (post k a)
   cause-shut b f s = rw (post-cause, b, f, s)
 
-  cause-room : {r n : ℕ} → isBook ws ≡ true → fault k a ≡ 0 → shutTo k (entries ws) ≡ false → r ≡ roomIn (length ws) → n ≡ countOf ws → r ≤ n → 9 ≡ causeOf ws (post k a)
-  cause-room b f s e q h = rw (post-cause, b, f, s, le-ltb (countOf ws) (roomIn (length ws)) (rw (e, q) at h))
+  cause-room : isBook ws ≡ true → fault k a ≡ 0 → shutTo k (entries ws) ≡ false → roomIn (length ws) ≤ countOf ws → 9 ≡ causeOf ws (post k a)
+  cause-room b f s h = rw (post-cause, b, f, s, le-ltb (countOf ws) (roomIn (length ws)) h)
 
-  cause-none : {r n : ℕ} → isBook ws ≡ true → fault k a ≡ 0 → shutTo k (entries ws) ≡ false → r ≡ roomIn (length ws) → n ≡ countOf ws → n < r → 0 ≡ causeOf ws (post k a)
-  cause-none b f s e q h = rw (post-cause, b, f, s, lt-ltb (countOf ws) (roomIn (length ws)) (rw (e, q) at h))
+  cause-none : isBook ws ≡ true → fault k a ≡ 0 → shutTo k (entries ws) ≡ false → countOf ws < roomIn (length ws) → 0 ≡ causeOf ws (post k a)
+  cause-none b f s h = rw (post-cause, b, f, s, lt-ltb (countOf ws) (roomIn (length ws)) h)
 
 is-book-requires : tie.Need-is-book-requires
 is-book-requires c κs = search needs
@@ -66,10 +62,10 @@ room-requires : tie.Need-room-requires
 room-requires c κs = search needs
 
 returns-4 : tie.Need-returns-4
-returns-4 c = search (cause-room, passed, told)
+returns-4 c = search (cause-room, passed, told, told-full)
 
 returns-5 : tie.Need-returns-5
-returns-5 c = search (cause-none, passed, told)
+returns-5 c = search (cause-none, passed, told, told-room)
 
 pub post-cause-spec : {M : Type 1} → statement M
 post-cause-spec =
