@@ -14,23 +14,30 @@ use Rattle.numbers.specs.Causes.{unless}
 use Rattle.numbers.proofs.TestLaws.{every-holds}
 use Rattle.numbers.proofs.CauseLaws.{unless-zero, clear-all}
 use Rattle.rules.specs.Entry.{keyOf}
-use Rattle.rules.specs.Words.{word, valueOf, typeBits}
-use Rattle.rules.specs.DayFile.{line, linesIn, partyIn, isHead, isLine, itemsFrom}
+use Rattle.rules.specs.Words.{values, types, counterparties, statusUnit, lowAmounts, word, valueOf, typeBits}
+use Rattle.rules.specs.DayFile.{parties, highAmounts, line, linesIn, partyIn, isHead, isLine, itemsFrom}
 use Rattle.rules.proofs.WordLaws.{word-kind, word-value}
 use Rattle.file_writer.specs.declared.HeadWords.{HeadWords}
 use Rattle.file_writer.specs.declared.LineWords.{LineWords}
 use Rattle.word_bytes.specs.Coding.{wordAt}
-use Rattle.file_writer.specs.Write.{headFits, headWords, lineFits, lineWords, bytesAt, putCause, putWords}
+use Rattle.file_writer.specs.Write.{blockLines, headFits, headWords, lineFits, lineWords, bytesAt, putCause, putWords}
 
-pub head-in : (p d n : ℕ) → every (ltb p 65536 ∷ ltb d 268435456 ∷ ltb n 4096 ∷ []) ≡ true → (p < 65536) × (d < 268435456) × (n < 4096)
+-- whether the figures of a head, and of a line, fit their bits
+abbrev headTests : ℕ → ℕ → ℕ → List Bool
+headTests p d n = ltb p parties ∷ ltb d values ∷ ltb n blockLines ∷ []
+
+abbrev lineTests : ℕ → ℕ → ℕ → List Bool
+lineTests t c a = ltb t types ∷ ltb c counterparties ∷ ltb a (lowAmounts * highAmounts) ∷ []
+
+pub head-in : (p d n : ℕ) → every (headTests p d n) ≡ true → (p < parties) × (d < values) × (n < blockLines)
 head-in p d n e =
-    let h = every-holds (ltb p 65536 ∷ ltb d 268435456 ∷ ltb n 4096 ∷ []) e in
-    (ltb-true p 65536 (h .0), ltb-true d 268435456 (h .1 .0), ltb-true n 4096 (h .1 .1 .0))
+    let h = every-holds (headTests p d n) e in
+    (ltb-true p parties (h .0), ltb-true d values (h .1 .0), ltb-true n blockLines (h .1 .1 .0))
 
-pub line-in : (t c a : ℕ) → every (ltb t 256 ∷ ltb c 65536 ∷ ltb a 1099511627776 ∷ []) ≡ true → (t < 256) × (c < 65536) × (a < 1099511627776)
+pub line-in : (t c a : ℕ) → every (lineTests t c a) ≡ true → (t < types) × (c < counterparties) × (a < lowAmounts * highAmounts)
 line-in t c a e =
-    let h = every-holds (ltb t 256 ∷ ltb c 65536 ∷ ltb a 1099511627776 ∷ []) e in
-    (ltb-true t 256 (h .0), ltb-true c 65536 (h .1 .0), ltb-true a 1099511627776 (h .1 .1 .0))
+    let h = every-holds (lineTests t c a) e in
+    (ltb-true t types (h .0), ltb-true c counterparties (h .1 .0), ltb-true a (lowAmounts * highAmounts) (h .1 .1 .0))
 
 -- a head that was written is a head, and its figures are read back
 pub record HeadBack (p d n : ℕ) : Type 0 where
@@ -42,10 +49,10 @@ pub record HeadBack (p d n : ℕ) : Type 0 where
 pub head-back : (p d n : ℕ) → headWords p d n .answer ≡ 0 → HeadBack p d n
 unfolding headWords headFits
 head-back p d n e =
-    let f = unless-zero (every (ltb p 65536 ∷ ltb d 268435456 ∷ ltb n 4096 ∷ [])) 11 (clear-all (unless (every (ltb p 65536 ∷ ltb d 268435456 ∷ ltb n 4096 ∷ [])) 12 ∷ []) e .0) in
+    let f = unless-zero (every (headTests p d n)) 11 (clear-all (unless (every (headTests p d n)) 12 ∷ []) e .0) in
     let h = head-in p d n f in
-    let k = word-kind 1 (p + n * 65536) (omega arith) in
-    let v = word-value 1 (p + n * 65536) (omega arith) in
+    let k = word-kind 1 (p + n * parties) (omega arith) in
+    let v = word-value 1 (p + n * parties) (omega arith) in
     record {
       is-head = rw (f, k, word-kind 2 d (omega arith));
       party = rw (f, v) (omega arith);
@@ -61,18 +68,18 @@ pub record LineBack (t c a : ℕ) : Type 0 where
 pub line-back : (t c a : ℕ) → lineWords t c a .answer ≡ 0 → LineBack t c a
 unfolding lineWords lineFits itemsFrom
 line-back t c a e =
-    let f = unless-zero (every (ltb t 256 ∷ ltb c 65536 ∷ ltb a 1099511627776 ∷ [])) 11 (clear-all (unless (every (ltb t 256 ∷ ltb c 65536 ∷ ltb a 1099511627776 ∷ [])) 12 ∷ []) e .0) in
+    let f = unless-zero (every (lineTests t c a)) 11 (clear-all (unless (every (lineTests t c a)) 12 ∷ []) e .0) in
     let h = line-in t c a f in
     let k = word-kind 3 (typeBits t c 0) (omega arith) in
     let v = word-value 3 (typeBits t c 0) (omega arith) in
-    let type : typeBits t c 0 % 256 ≡ t = omega arith in
-    let party : typeBits t c 0 / 256 ≡ c = omega arith in
-    let top : a / 268435456 < 4096 = omega arith in
-    let amount : a % 268435456 + a / 268435456 * 268435456 ≡ a = omega arith in
-    let low = word-value 4 (a % 268435456) (omega arith) in
-    let high = word-value 5 (a / 268435456) (omega arith) in
+    let type : typeBits t c 0 % types ≡ t = omega arith in
+    let party : typeBits t c 0 / types ≡ c = omega arith in
+    let top : a / lowAmounts < highAmounts = omega arith in
+    let amount : a % lowAmounts + a / lowAmounts * lowAmounts ≡ a = omega arith in
+    let low = word-value 4 (a % lowAmounts) (omega arith) in
+    let high = word-value 5 (a / lowAmounts) (omega arith) in
     record {
-      is-line = rw (f, k, v, word-kind 4 (a % 268435456) (omega arith), word-kind 5 (a / 268435456) (omega arith), high, lt-ltb (typeBits t c 0) 16777216 (omega arith), lt-ltb (a / 268435456) 4096 top);
+      is-line = rw (f, k, v, word-kind 4 (a % lowAmounts) (omega arith), word-kind 5 (a / lowAmounts) (omega arith), high, lt-ltb (typeBits t c 0) statusUnit (omega arith), lt-ltb (a / lowAmounts) highAmounts top);
       reads = λ n p d ws. rw (f, v, low, high, type, party, amount);
     }
 
@@ -125,24 +132,24 @@ word-back bs at w e =
 -- what the code answers, by its test
 module _ (p d n : ℕ) where
   abbrev fitsHead : Bool
-  fitsHead = every (ltb p 65536 ∷ ltb d 268435456 ∷ ltb n 4096 ∷ [])
+  fitsHead = every (headTests p d n)
 
   pub head-refused : not fitsHead ≡ true → _≡_ {A = HeadWords} (record { answer = 12; first = 0; second = 0 }) (headWords p d n)
   unfolding headWords headFits
   head-refused e = rw (not-true fitsHead e)
 
-  pub head-written : not fitsHead ≡ false → _≡_ {A = HeadWords} (record { answer = 0; first = word 1 (p + n * 65536); second = word 2 d }) (headWords p d n)
+  pub head-written : not fitsHead ≡ false → _≡_ {A = HeadWords} (record { answer = 0; first = word 1 (p + n * parties); second = word 2 d }) (headWords p d n)
   unfolding headWords headFits
   head-written e = rw (not-false fitsHead e)
 
 module _ (t c a : ℕ) where
   abbrev fitsLine : Bool
-  fitsLine = every (ltb t 256 ∷ ltb c 65536 ∷ ltb a 1099511627776 ∷ [])
+  fitsLine = every (lineTests t c a)
 
   pub line-refused : not fitsLine ≡ true → _≡_ {A = LineWords} (record { answer = 12; figures = 0; low = 0; high = 0 }) (lineWords t c a)
   unfolding lineWords lineFits
   line-refused e = rw (not-true fitsLine e)
 
-  pub line-written : not fitsLine ≡ false → _≡_ {A = LineWords} (record { answer = 0; figures = word 3 (t + c * 256); low = word 4 (a % 268435456); high = word 5 (a / 268435456) }) (lineWords t c a)
+  pub line-written : not fitsLine ≡ false → _≡_ {A = LineWords} (record { answer = 0; figures = word 3 (t + c * types); low = word 4 (a % lowAmounts); high = word 5 (a / lowAmounts) }) (lineWords t c a)
   unfolding lineWords lineFits
-  line-written e = rw (not-false fitsLine e, add-zero (t + c * 256))
+  line-written e = rw (not-false fitsLine e, add-zero (t + c * types))
