@@ -3,8 +3,7 @@ use mathlib.Core.Path.{_≡_, refl, sym, ap, _∙_}
 use mathlib.Core.Logic.{inl, inr, _≢_}
 use mathlib.Core.Bool.{Bool, true, false, not, _&&_}
 use mathlib.Core.List.{List, [], _∷_, _++_, map}
-use Prim.Native.Nat.{ℕ, zero, suc, _+_, _≤_, _<_, min}
-use native.Mathlib.Nat.{le-trans, le-add-right}
+use Prim.Native.Nat.{ℕ, zero, suc, _+_, _*_, _≤_, _<_}
 use native.Mathlib.Omega.{arith}
 use lib.Dec.{leb, ltb}
 use lib.ListN.{length, getD, take, drop, set, length-take, length-set, take-append-drop}
@@ -23,7 +22,7 @@ use Rattle.rules.specs.Machine.{leavesOf, figuresOf}
 use Rattle.rules.specs.Calls.{Change, post, withdraw, control, file, Figures, noFigures, refusal, figuresOn, changed, onRecords, bookMachine, causeOf, figuresAt, wordsAfter}
 use Rattle.rules.proofs.WordLaws.{length-read, book-facts}
 use Rattle.rules.proofs.BookLaws.{open-limits, Stays, entry-at, posted-book, restatused-book}
-use Rattle.rules.proofs.LiftLaws.{SameView, room-each, cut-long, cut-view, Passes, passes, SameFor, equal-room, with-room, same-cause, same-figures, refused-leaves, done-leaves, lifted-stays, cut-leaves}
+use Rattle.rules.proofs.LiftLaws.{SameView, room-alike, cut-long, cut-view, Passes, passes, SameFor, equal-room, with-room, same-cause, same-figures, refused-leaves, done-leaves, lifted-stays, cut-leaves}
 use Rattle.rules.proofs.ChangeLaws.{post-clear, withdraw-clear, control-clear, file-clear, changes-keep, adds, changes-roomy}
 
 pub entries-count : (ws : List ℕ) → length (entries ws) ≡ countOf ws
@@ -80,11 +79,16 @@ module _ (m : ℕ) (full : bookWords ≤ m) (ws : List ℕ) where
   pub full-same : (c : Change) → SameFor onRecords c (take m ws) ws
   full-same c = equal-room onRecords full-view (rw (length-take m ws) (omega arith)) c
 
--- and words cut at any length with room for what the call adds
-pub room-same : (m : ℕ) → 3 ≤ m → (ws : List ℕ) (c : Change) → countOf ws + adds c ≤ roomIn (length (take m ws)) → SameFor onRecords c (take m ws) ws
-room-same m head ws c room =
-    let r = room-each (countOf ws + adds c) m (length ws) (rw (length-take m ws) at room) in
-    with-room onRecords changes-roomy (cut-view m head ws (λ l. le-trans (le-add-right (countOf ws) (adds c)) (r .0))) c room (r .1)
+-- and so are words cut at any length past the entries and what the call adds
+room-for : (k m b : ℕ) → 3 + 5 * k ≤ m → k ≤ roomIn b → k ≤ roomIn m
+room-for k m b h g = omega arith
+
+pub room-same : (m : ℕ) (ws : List ℕ) (c : Change) → 3 + 5 * (countOf ws + adds c) ≤ m → SameFor onRecords c (take m ws) ws
+room-same m ws c h =
+    let n = length ws in
+    let k = countOf ws + adds c in
+    with-room onRecords changes-roomy (cut-view m (omega arith) ws (room-for (countOf ws) m n (omega arith))) c
+    (rw (length-take m ws) (room-alike k m n (room-for k m n h)))
 
 -- a call on cut words leaves the same, and the words past the cut as they were
 pub cut-words : (m : ℕ) (ws : List ℕ) (c : Change) → SameFor onRecords c (take m ws) ws → wordsAfter ws c ≡ wordsAfter (take m ws) c ++ drop m ws

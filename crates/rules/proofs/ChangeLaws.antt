@@ -1,16 +1,17 @@
 -- What the clear causes of each call say; that each call that changes a book keeps its records legal and within the room, and looks at the room
--- for nothing but the entries that it adds. Assumes nothing.
+-- only for whether the entries that it adds fit. Assumes nothing.
 use mathlib.Core.Path.{_≡_, refl, sym, ap, _∙_}
+use mathlib.Core.Logic.{inl, inr}
 use mathlib.Core.Bool.{Bool, true, false, not, _&&_}
 use mathlib.Core.List.{List, [], _∷_, _++_, map}
 use Prim.Native.Nat.{ℕ, _+_, _≤_, _<_}
 use native.Mathlib.Omega.{arith}
 use lib.Dec.{leb, ltb}
 use lib.ListN.{length, getD, set, length-append, length-set}
-use borrow.Author.Tests.{leb-true, ltb-true, le-leb, lt-ltb, not-true}
+use borrow.Author.Tests.{leb-true, ltb-true, ltb-false, le-leb, lt-leb, not-true}
 use Rattle.numbers.specs.Tests.{all}
 use Rattle.numbers.specs.Causes.{unless, firstOf}
-use Rattle.numbers.proofs.TestLaws.{and-split, all-append, all-set, all-getD}
+use Rattle.numbers.proofs.TestLaws.{bool-cases, and-split, all-append, all-set, all-getD}
 use Rattle.numbers.proofs.CauseLaws.{clear-all, unless-zero}
 use Rattle.rules.specs.Entry.{Key, Record, recordOf, key, noRecord, withStatus, legal, fault, isMark, isStanding, standing, withdrawn, dayOk}
 use Rattle.rules.specs.Words.{Frame}
@@ -95,19 +96,26 @@ room f rs (file bs) h e = rw (length-append rs (linesOf (items bs))) (file-clear
 pub changes-keep : Keeps onRecords
 changes-keep = record { legals = legals; room = room }
 
--- the entries that a done call adds; only for them does it look at the room
+-- the entries that a done call adds; it looks at the room only for whether they fit
 unfoldable pub adds : Change → ℕ
 adds (post k a) = 1
 adds (withdraw n) = 0
 adds (control d) = 1
 adds (file bs) = length (linesOf (items bs))
 
-roomy-cause : (R TM n m : ℕ) (rs : List Record) (c : Change) → length rs + adds c ≤ n → length rs + adds c ≤ m → refusal (framed R TM n) rs c ≡ refusal (framed R TM m) rs c
+one-more : (a b : ℕ) → ltb a b ≡ leb (a + 1) b
+one-more a b =
+    elim (bool-cases (ltb a b)) [
+      | inl e ↦ rw e (sym (le-leb (a + 1) b (omega (arith, ltb-true a b e))))
+      | inr e ↦ rw e (sym (lt-leb (a + 1) b (omega (arith, ltb-false a b e))))
+    ]
+
+roomy-cause : (R TM n m : ℕ) (rs : List Record) (c : Change) → leb (length rs + adds c) n ≡ leb (length rs + adds c) m → refusal (framed R TM n) rs c ≡ refusal (framed R TM m) rs c
 unfolding adds refusal postRefusal controlRefusal fileRefusal
-roomy-cause R TM n m rs (post k a) h l = rw (lt-ltb (length rs) n (omega arith), lt-ltb (length rs) m (omega arith))
-roomy-cause R TM n m rs (withdraw i) h l = refl
-roomy-cause R TM n m rs (control d) h l = rw (lt-ltb (length rs) n (omega arith), lt-ltb (length rs) m (omega arith))
-roomy-cause R TM n m rs (file bs) h l = rw (le-leb _ n h, le-leb _ m l)
+roomy-cause R TM n m rs (post k a) h = rw (one-more (length rs) n, one-more (length rs) m, h)
+roomy-cause R TM n m rs (withdraw i) h = refl
+roomy-cause R TM n m rs (control d) h = rw (one-more (length rs) n, one-more (length rs) m, h)
+roomy-cause R TM n m rs (file bs) h = rw h
 
 roomy-figures : (R TM n m : ℕ) (rs : List Record) (c : Change) → figuresOn (framed R TM n) rs c ≡ figuresOn (framed R TM m) rs c
 unfolding figuresOn

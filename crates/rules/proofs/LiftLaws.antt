@@ -4,7 +4,7 @@ use mathlib.Core.Logic.{inl, inr, _≢_}
 use mathlib.Core.Bool.{Bool, true, false, true≢false, _&&_}
 use mathlib.Core.List.{List, [], _∷_, _++_, append-assoc}
 use Prim.Native.Nat.{ℕ, zero, suc, _+_, _*_, _≤_, _<_, min}
-use native.Mathlib.Nat.{le-trans, min-le-left, min-le-right}
+use native.Mathlib.Nat.{min-le-right}
 use native.Mathlib.Omega.{arith}
 use lib.Dec.{leb}
 use lib.ListN.{length, getD, take, drop, length-take, take-append-drop}
@@ -56,9 +56,13 @@ room-both k a b h l =
 room-grows : (a b : ℕ) → a ≤ b → roomIn a ≤ roomIn b
 room-grows a b h = omega arith
 
-pub room-each : (k a b : ℕ) → k ≤ roomIn (min a b) → (k ≤ roomIn a) × (k ≤ roomIn b)
-room-each k a b h =
-    (le-trans h (room-grows (min a b) a (min-le-left a b)), le-trans h (room-grows (min a b) b (min-le-right a b)))
+-- and no more room than the slice: what fits the cut's length fits the cut and the slice alike
+pub room-alike : (k a b : ℕ) → (k ≤ roomIn b → k ≤ roomIn a) → leb k (roomIn (min a b)) ≡ leb k (roomIn b)
+room-alike k a b h =
+    elim (bool-cases (leb k (roomIn b))) [
+      | inl e ↦ let l = leb-true k (roomIn b) e in rw e (le-leb k (roomIn (min a b)) (room-both k a b (h l) l))
+      | inr e ↦ let g = room-grows (min a b) b (min-le-right a b) in rw e (lt-leb k (roomIn (min a b)) (omega (arith, leb-false k (roomIn b) e)))
+    ]
 
 pub cut-long : (m : ℕ) → 3 ≤ m → (ws : List ℕ) → leb 3 (length (take m ws)) ≡ leb 3 (length ws)
 cut-long m head ws =
@@ -72,13 +76,7 @@ module _ (m : ℕ) (head : 3 ≤ m) (ws : List ℕ) (held : countOf ws ≤ roomI
   cut-agree i h = getD-take m ws i 0 h
 
   cut-room : leb (countOf ws) (roomIn (length (take m ws))) ≡ leb (countOf ws) (roomIn (length ws))
-  cut-room =
-      elim (bool-cases (leb (countOf ws) (roomIn (length ws)))) [
-        | inl e ↦
-            let l = leb-true (countOf ws) (roomIn (length ws)) e in
-            rw (e, length-take m ws) (le-leb (countOf ws) (roomIn (min m (length ws))) (room-both (countOf ws) m (length ws) (held l) l))
-        | inr e ↦ rw (e, length-take m ws) (lt-leb (countOf ws) (roomIn (min m (length ws))) (omega (arith, leb-false (countOf ws) (roomIn (length ws)) e)))
-      ]
+  cut-room = rw (length-take m ws) (room-alike (countOf ws) m (length ws) held)
 
   cut-past : countOf ws ≤ roomIn (length ws) → Agree (5 * countOf ws) (drop 3 (take m ws)) (drop 3 ws)
   cut-past l =
@@ -125,9 +123,9 @@ pub record Keeps {C F : Type 0} (on : Frame → Machine (List Record) C F) : Typ
   pub legals : (f : Frame) (rs : List Record) (c : C) → all legal rs ≡ true → on f .cause rs c ≡ 0 → all legal (on f .done rs c) ≡ true
   pub room : (f : Frame) (rs : List Record) (c : C) → length rs ≤ f .room → on f .cause rs c ≡ 0 → length (on f .done rs c) ≤ f .room
 
--- a call looks at the room for nothing but the entries that it adds
+-- a call looks at the room only for whether the entries that it adds fit
 pub record Roomy {C F : Type 0} (on : Frame → Machine (List Record) C F) (adds : C → ℕ) : Type 0 where
-  pub cause : (R TM n m : ℕ) (rs : List Record) (c : C) → length rs + adds c ≤ n → length rs + adds c ≤ m → on (framed R TM n) .cause rs c ≡ on (framed R TM m) .cause rs c
+  pub cause : (R TM n m : ℕ) (rs : List Record) (c : C) → leb (length rs + adds c) n ≡ leb (length rs + adds c) m → on (framed R TM n) .cause rs c ≡ on (framed R TM m) .cause rs c
   pub figures : (R TM n m : ℕ) (rs : List Record) (c : C) → on (framed R TM n) .figures rs c ≡ on (framed R TM m) .figures rs c
   pub done : (R TM n m : ℕ) (rs : List Record) (c : C) → on (framed R TM n) .done rs c ≡ on (framed R TM m) .done rs c
 
@@ -167,8 +165,8 @@ module _ {C F : Type 0} (on : Frame → Machine (List Record) C F) where
   equal-room {ws} {vs} s e c =
       record { view = s; same = λ b. same-frame (framed-as s b ∙ ap (framed (coefficientOf vs) (toleranceOf vs)) e) (entries vs) c }
 
-  pub with-room : {adds : C → ℕ} → Roomy on adds → {ws vs : List ℕ} → SameView ws vs → (c : C) → countOf vs + adds c ≤ roomIn (length ws) → countOf vs + adds c ≤ roomIn (length vs) → SameFor c ws vs
-  with-room {adds} r {ws} {vs} s c h k = record { view = s; same = at }
+  pub with-room : {adds : C → ℕ} → Roomy on adds → {ws vs : List ℕ} → SameView ws vs → (c : C) → leb (countOf vs + adds c) (roomIn (length ws)) ≡ leb (countOf vs + adds c) (roomIn (length vs)) → SameFor c ws vs
+  with-room {adds} r {ws} {vs} s c h = record { view = s; same = at }
     where
       at : isBook vs ≡ true → SameOn (frameOf ws) (frameOf vs) (entries vs) c
       at b =
@@ -179,7 +177,7 @@ module _ {C F : Type 0} (on : Frame → Machine (List Record) C F) where
           let l : length (entries vs) ≡ countOf vs = book-facts vs b .count in
           let o = same-frame (framed-as s b) (entries vs) c in
           record {
-            cause = o .cause ∙ r .cause R TM n m (entries vs) c (rw l h) (rw l k);
+            cause = o .cause ∙ r .cause R TM n m (entries vs) c (rw l h);
             figures = o .figures ∙ r .figures R TM n m (entries vs) c;
             done = o .done ∙ r .done R TM n m (entries vs) c;
           }

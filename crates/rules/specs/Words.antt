@@ -7,11 +7,11 @@ use lib.ListN.{length, getD, drop}
 use Rattle.numbers.specs.Tests.{every}
 use Rattle.rules.specs.Entry.{Key, Record, keyOf, recordOf, key, legal}
 
--- a word has 32 bits; its top four, above the value, are its kind
+-- a word has 32 bits; its top four are its kind, those below them its value
 abbrev pub values : ℕ
 values = 268435456
 
--- the bits of a kind 3 word: type, 0-7; counterparty, 8-23; status, from 24 on
+-- the bits of a kind 3 word: type, 0-7; counterparty, 8-23; status, 24-25
 abbrev pub types : ℕ
 types = 256
 
@@ -21,7 +21,7 @@ counterparties = 65536
 abbrev pub statusUnit : ℕ
 statusUnit = 16777216
 
--- an amount's low 28 bits; the next are the value of a kind 5 word
+-- the bits of an amount: the low 28 in a kind 4 word, the next 12 in a kind 5 word
 abbrev pub lowAmounts : ℕ
 lowAmounts = 268435456
 
