@@ -47,7 +47,9 @@
 extern "C" {
 #endif
 
-#define FANZSOREB_VERSION 10000 /* 1.0.0: major x 10,000 + minor x 100 + patch */
+/* 1.0.1: major x 10,000 + minor x 100 + patch. A changed struct or signature raises the major number, a new call the
+ * minor one, any other change the patch. */
+#define FANZSOREB_VERSION 10001
 
 #define FANZSOREB_MOST_ENTRIES 3072      /* of a book */
 #define FANZSOREB_BOOK_BYTES 61452       /* of a book with room for as many, 12 + 20 x 3,072 */
@@ -140,7 +142,9 @@ uint32_t fanzsoreb_is_book(const uint8_t *book, size_t length);
  * below 12), 12 (R or TM outside its range). */
 uint32_t fanzsoreb_open(uint8_t *book, size_t length, uint32_t coefficient, uint32_t tolerance);
 
-/* The same with R 110 and TM 600,000. Changes the first 12 bytes. Causes: 1, 11. */
+/* The same with R 105 and TM 500,000. Changes the first 12 bytes. Causes: 1, 11. Before version 1.0.1 these were 110
+ * and 600,000: a host that relied on them names them, fanzsoreb_open(book, length, 110, 600000). A book keeps the R and
+ * TM that it was opened with, whichever version reads it. */
 uint32_t fanzsoreb_open_default(uint8_t *book, size_t length);
 
 /* Appends one standing entry; its number, counted from 0. Party 1 to 999; day 0 to 36,524; type 1 to 20; counterparty

@@ -16,7 +16,7 @@ static uint32_t entry_cause(uint32_t number)
     return e.answer;
 }
 
-/* A book by default, filled with a byte that no entry has. */
+/* A book opened without figures, filled with a byte that no entry has. */
 static void fresh(size_t offset)
 {
     lend(offset, FANZSOREB_BOOK_BYTES, 0xEE);
@@ -35,11 +35,15 @@ static void opens(size_t offset)
     put(2, 0x8BEBC200); /* 200,000,000 */
     CHECK(fanzsoreb_open(book, lent, 1000, 200000000) == FANZSOREB_DONE);
     CHECK(as_expected());
+    put(1, 0x7000006E); /* 110 */
+    put(2, 0x800927C0); /* 600,000 */
+    CHECK(fanzsoreb_open(book, lent, 110, 600000) == FANZSOREB_DONE);
+    CHECK(as_expected());
 
     REFUSED(fanzsoreb_open_default(book, 14), FANZSOREB_NOT_A_BOOK);
     REFUSED(fanzsoreb_open_default(book, 8), FANZSOREB_BAD_LENGTH);
-    put(1, 0x7000006E); /* 110 */
-    put(2, 0x800927C0); /* 600,000 */
+    put(1, 0x70000069); /* 105 */
+    put(2, 0x8007A120); /* 500,000 */
     CHECK(fanzsoreb_open_default(book, lent) == FANZSOREB_DONE);
     CHECK(as_expected());
 }

@@ -103,8 +103,8 @@ static void reads_a_file(size_t offset)
     r = fanzsoreb_read_file(book, lent, file, 40);
     CHECK(r.answer == FANZSOREB_DONE && r.posted == 2);
     CHECK(as_expected());
-    CHECK(day_ahead(1, 9000) == 10000000 && delivery(1, 9000) == 10000000);
-    CHECK(day_ahead(2, 9000) == -77000000 && delivery(2, 9000) == -77000000);
+    CHECK(day_ahead(1, 9000) == 17500000 && delivery(1, 9000) == 17500000);   /* 70,000,000 - 105 x 500,000 */
+    CHECK(day_ahead(2, 9000) == -73500000 && delivery(2, 9000) == -73500000); /* -105 x 700,000 */
     r = fanzsoreb_read_file(book, lent, file, 32);
     CHECK(r.answer == FANZSOREB_DONE && r.posted == 2 && fanzsoreb_count(book, lent).count == 4);
 }

@@ -63,6 +63,16 @@ static void tallies(size_t offset)
     CHECK(tally_cause(1, 9000) == FANZSOREB_NOT_A_BOOK);
 }
 
+/* Without cover a sale of the tolerance amount is clear, one kWh more is detected. */
+static void clear_up_to(uint32_t tolerance)
+{
+    CHECK(day_ahead(1, 9000) == -100 * (int64_t)tolerance && delivery(1, 9000) == -100 * (int64_t)tolerance);
+    CHECK(post(1, 9000, FANZSOREB_DAY_AHEAD_SALE, 0, tolerance) == FANZSOREB_DONE);
+    CHECK(day_ahead(1, 9000) == 0 && fanzsoreb_detected(day_ahead(1, 9000)) == 0);
+    CHECK(post(1, 9000, FANZSOREB_DAY_AHEAD_SALE, 0, 1) == FANZSOREB_DONE);
+    CHECK(day_ahead(1, 9000) == 100 && fanzsoreb_detected(day_ahead(1, 9000)) == 1);
+}
+
 static void balances(size_t offset)
 {
     sixteen_types(offset);
@@ -79,11 +89,9 @@ static void balances(size_t offset)
     CHECK(balance_cause(1, 9000) == FANZSOREB_NOT_A_BOOK);
 
     fresh(offset);
-    CHECK(day_ahead(1, 9000) == -60000000 && delivery(1, 9000) == -60000000);
-    CHECK(post(1, 9000, FANZSOREB_DAY_AHEAD_SALE, 0, 600000) == FANZSOREB_DONE);
-    CHECK(day_ahead(1, 9000) == 0 && fanzsoreb_detected(day_ahead(1, 9000)) == 0);
-    CHECK(post(1, 9000, FANZSOREB_DAY_AHEAD_SALE, 0, 1) == FANZSOREB_DONE);
-    CHECK(day_ahead(1, 9000) == 100 && fanzsoreb_detected(day_ahead(1, 9000)) == 1);
+    clear_up_to(500000);
+    CHECK(fanzsoreb_open(book, lent, 110, 600000) == FANZSOREB_DONE);
+    clear_up_to(600000);
 }
 
 static void detection(void)

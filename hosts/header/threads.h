@@ -13,8 +13,8 @@ static void *read_often(void *faults)
         *wrong += fanzsoreb_count(book, lent).count != 7;
         *wrong += fanzsoreb_entry(book, lent, 3).amount != 5000;
         *wrong += fanzsoreb_tally(book, lent, 5, 90).tally.party != 5;
-        *wrong += fanzsoreb_day_ahead(book, lent, 5, 99).balance != -60000000;
-        *wrong += fanzsoreb_delivery(book, lent, 5, 99).balance != -60000000;
+        *wrong += fanzsoreb_day_ahead(book, lent, 5, 99).balance != -50000000;
+        *wrong += fanzsoreb_delivery(book, lent, 5, 99).balance != -50000000;
         *wrong += fanzsoreb_collateral_of(book, lent, &c).total != 1385887;
     }
     return NULL;
@@ -29,7 +29,7 @@ static void *write_often(void *faults)
     memset(own, 0, sizeof own);
     *wrong += fanzsoreb_open_default(own, sizeof own) != FANZSOREB_DONE;
     for (i = 0; i < 99; i++)
-        *wrong += fanzsoreb_post(own, sizeof own, 1 + i, 9000, FANZSOREB_DAY_AHEAD_SALE, 0, 600001).number != i;
+        *wrong += fanzsoreb_post(own, sizeof own, 1 + i, 9000, FANZSOREB_DAY_AHEAD_SALE, 0, 500001).number != i;
     *wrong += fanzsoreb_control(own, sizeof own, 9000).first != 99;
     *wrong += fanzsoreb_count(own, sizeof own).count != 100;
     return NULL;

@@ -3,7 +3,7 @@ ghost use mathlib.Core.Path.{_≡_};
 ghost use lib.ListN.{length};
 ghost use Rattle.rules.specs.Entry.{keyIn, recordIn};
 ghost use Rattle.rules.specs.Words.{isBook};
-ghost use Rattle.rules.specs.Book.{openCause, openWords, defaultCoefficient, defaultTolerance, countAnswer, noRead, readOf, readAnswer};
+ghost use Rattle.rules.specs.Book.{openCause, openWords, openDefaultCause, openDefaultWords, countAnswer, noRead, readOf, readAnswer};
 ghost use Rattle.rules.specs.Balance.{partyDayCause};
 ghost use Rattle.rules.specs.Calls.{causeOf, wordsAfter, postAnswer};
 ghost use Rattle.rules.specs.Calls as calls;
@@ -70,10 +70,10 @@ pub fn open(book: &mut [u32], coefficient: u32, tolerance: u32) -> u32
     0
 }
 
-// Opens a book with the figures of document 004, Article 11.
+// Opens a book with the figures of an opening that names none (02, T-12).
 pub fn open_default(book: &mut [u32]) -> u32
-    ensures answer { λ r. ⌜ r ≡ openCause (length (now (book .entry))) defaultCoefficient defaultTolerance ⌝ }
-    ensures words { λ r. ⌜ now (book .exit) ≡ openWords (now (book .entry)) defaultCoefficient defaultTolerance ⌝ }
+    ensures answer { λ r. ⌜ r ≡ openDefaultCause (length (now (book .entry))) ⌝ }
+    ensures words { λ r. ⌜ now (book .exit) ≡ openDefaultWords (now (book .entry)) ⌝ }
 {
     open(book, DEFAULT_COEFFICIENT, DEFAULT_TOLERANCE)
 }

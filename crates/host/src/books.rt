@@ -4,7 +4,7 @@ ghost use lib.ListN.{length};
 ghost use Rattle.rules.specs.Entry.{keyOf};
 ghost use Rattle.rules.specs.Words.{isBook};
 ghost use Rattle.rules.specs.Refusals.{notABook};
-ghost use Rattle.rules.specs.Book.{openCause, openWords, defaultCoefficient, defaultTolerance, countAnswer, noRead, readAnswer};
+ghost use Rattle.rules.specs.Book.{openCause, openWords, openDefaultCause, openDefaultWords, countAnswer, noRead, readAnswer};
 ghost use Rattle.rules.specs.Calls.{causeOf, wordsAfter, postAnswer};
 ghost use Rattle.rules.specs.Calls as calls;
 ghost use Rattle.word_bytes.specs.Bytes.{onWords, withWords, yesNo};
@@ -12,8 +12,6 @@ use rules::Counted;
 use rules::EntryRead;
 use rules::Key;
 use rules::Posted;
-use rules::bounds::DEFAULT_COEFFICIENT;
-use rules::bounds::DEFAULT_TOLERANCE;
 use rules::causes::NOT_A_BOOK;
 use rules::layout::BOOK_WORDS;
 
@@ -43,13 +41,20 @@ pub extern "C" fn fanzsoreb_open(book: &mut [u8], coefficient: u32, tolerance: u
     opened
 }
 
-// Opens a book with R 110 and TM 600,000 (document 004, Article 11).
+// Opens a book with the figures of an opening that names none.
 #[no_mangle]
 pub extern "C" fn fanzsoreb_open_default(book: &mut [u8]) -> u32
-    ensures answer { λ r. ⌜ r ≡ onWords (now (book .entry)) (λ ws. openCause (length ws) defaultCoefficient defaultTolerance) notABook ⌝ }
-    ensures bytes { λ r. ⌜ now (book .exit) ≡ withWords (now (book .entry)) (λ ws. openWords ws defaultCoefficient defaultTolerance) ⌝ }
+    ensures answer { λ r. ⌜ r ≡ onWords (now (book .entry)) (λ ws. openDefaultCause (length ws)) notABook ⌝ }
+    ensures bytes { λ r. ⌜ now (book .exit) ≡ withWords (now (book .entry)) openDefaultWords ⌝ }
 {
-    fanzsoreb_open(book, DEFAULT_COEFFICIENT, DEFAULT_TOLERANCE)
+    if book.len() % 4 != 0 {
+        return NOT_A_BOOK;
+    }
+    let mut words = [0u32; BOOK_WORDS];
+    let n = word_bytes::decode(book, &mut words);
+    let cause = book::open_default(&mut words[..n]);
+    word_bytes::write_back(cause, &words[..n], book);
+    cause
 }
 
 // Appends one standing entry and answers its number, counted from 0.

@@ -5,12 +5,12 @@ ghost use Rattle.rules.specs.Ceiling.{ceilingAnswer};
 use rules::CeilingAnswer;
 
 // Major × 10,000 + minor × 100 + patch.
-const VERSION: u32 = 10000;
+const VERSION: u32 = 10001;
 
 // The version of the calls.
 #[no_mangle]
 pub extern "C" fn fanzsoreb_version() -> u32
-    ensures { λ r. ⌜ r ≡ 1 * 10000 + 0 * 100 + 0 ⌝ }
+    ensures { λ r. ⌜ r ≡ 1 * 10000 + 0 * 100 + 1 ⌝ }
 {
     VERSION
 }

@@ -8,7 +8,7 @@ use Rattle.rules.specs.Words.{bookWords}
 use Rattle.rules.specs.Entry.{lastParty, dayPlaces}
 use Rattle.numbers.specs.Causes.{ifDone}
 use Rattle.rules.specs.Refusals.{badFile}
-use Rattle.rules.specs.Book.{openWords, defaultCoefficient, defaultTolerance}
+use Rattle.rules.specs.Book.{openDefaultWords}
 use Rattle.rules.specs.Balance.{balanceAnswer, dayAhead, delivery}
 use Rattle.rules.specs.DayFile.{fileNames}
 use Rattle.rules.specs.Calls.{file, causeOf, wordsAfter}
@@ -47,9 +47,9 @@ allLines bs ws = eachFrom (partyLines bs ws) lastParty 1
 unfoldable pub reportInto : List ℕ → List ℕ → List ℕ
 reportInto ws bs = ifDone (causeOf ws (file bs)) (header ++ allLines bs (wordsAfter ws (file bs))) (refusal (causeOf ws (file bs)))
 
--- read into a default book of 3,072 entries
+-- read into a book for 3,072 entries, opened without figures
 unfoldable pub reportOn : List ℕ → List ℕ
-reportOn bs = reportInto (openWords (replicate bookWords 0) defaultCoefficient defaultTolerance) bs
+reportOn bs = reportInto (openDefaultWords (replicate bookWords 0)) bs
 
 -- no report is longer: a header of 25 bytes, and a line of at most 54 for each eight bytes of a file
 abbrev pub mostText : ℕ

@@ -6,7 +6,7 @@ ghost use Prim.Native.Nat.{ℕ, _+_, _≤_, _<_};
 ghost use lib.ListN.{length, getD};
 ghost use Rattle.rules.specs.Entry.{lastParty, dayPlaces, partyPlaces};
 ghost use Rattle.rules.specs.Words.{isBook};
-ghost use Rattle.rules.specs.Book.{openWords, defaultCoefficient, defaultTolerance};
+ghost use Rattle.rules.specs.Book.{openDefaultWords};
 ghost use Rattle.file_names.specs.Names.{namesParty};
 ghost use Rattle.text.specs.Text.{Wrote, Whole};
 ghost use Rattle.report.specs.Asked.{Asked};
@@ -156,7 +156,7 @@ pub fn refused(cause: u32, out: &mut [u8]) -> usize
 }
 
 fn report_into(book: &mut [u32], file: &[u8], out: &mut [u8]) -> usize
-    ensures { λ r. ⌜ Wrote (now (out .entry)) 0 (reportInto (openWords (now (book .entry)) defaultCoefficient defaultTolerance) (now (file .entry))) r (now (out .exit)) ⌝ }
+    ensures { λ r. ⌜ Wrote (now (out .entry)) 0 (reportInto (openDefaultWords (now (book .entry))) (now (file .entry))) r (now (out .exit)) ⌝ }
 {
     book::open_default(book);
     let found = dayfile::read_file(book, file);

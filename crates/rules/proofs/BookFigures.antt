@@ -10,7 +10,7 @@ use lib.ListN.{replicate, set, take}
 use Rattle.numbers.specs.Tests.{every}
 use Rattle.rules.specs.Entry.{Key, Record, keyOf, recordOf}
 use Rattle.rules.specs.Words.{usedWords}
-use Rattle.rules.specs.Book.{defaultCoefficient, defaultTolerance, openCause, openWords, isClosed, shutTo, entryAt, countCause, countAnswer, readCause, readAnswer}
+use Rattle.rules.specs.Book.{openCause, openWords, defaultCoefficient, defaultTolerance, openDefaultCause, openDefaultWords, isClosed, shutTo, entryAt, countCause, countAnswer, readCause, readAnswer}
 use Rattle.rules.specs.Stores.{restatused}
 use Rattle.rules.specs.Machine.{Answer}
 use Rattle.rules.specs.Calls.{Figures, postAnswer}
@@ -131,9 +131,12 @@ bookFigures =
     ∷ sameNumbers (openWords (5 ∷ 6 ∷ 7 ∷ 8 ∷ []) 1001 0) (5 ∷ 6 ∷ 7 ∷ 8 ∷ [])
     ∷ sameNumbers (openWords (5 ∷ 6 ∷ 7 ∷ 8 ∷ []) 0 200000001) (5 ∷ 6 ∷ 7 ∷ 8 ∷ [])
     ∷ sameNumbers (openWords (5 ∷ 6 ∷ []) 0 0) (5 ∷ 6 ∷ [])
-    -- without figures R is 110 and TM 600,000
-    ∷ eqb defaultCoefficient 110
-    ∷ eqb defaultTolerance 600000
+    -- without figures R is 105, hexadecimal 69, and TM 500,000, hexadecimal 7A120; 11 below 3 words and no other cause
+    ∷ eqb defaultCoefficient 105
+    ∷ eqb defaultTolerance 500000
+    ∷ sameNumbers (map openDefaultCause (0 ∷ 2 ∷ 3 ∷ 15363 ∷ [])) (11 ∷ 11 ∷ 0 ∷ 0 ∷ [])
+    ∷ sameNumbers (openDefaultWords (5 ∷ 6 ∷ 7 ∷ 8 ∷ 9 ∷ [])) (0x60000000 ∷ 0x70000069 ∷ 0x8007A120 ∷ 8 ∷ 9 ∷ [])
+    ∷ sameNumbers (openDefaultWords (5 ∷ 6 ∷ [])) (5 ∷ 6 ∷ [])
     -- a post is answered its number and stored after the entries; words past it stay
     ∷ postIs (opened 13) money 1000000000000 0 0
     ∷ postLeaves (opened 13) money 1000000000000 one

@@ -14,8 +14,9 @@ use Rattle.rules.specs.Collateral.{noMonth, collateralAnswer}
 use Rattle.rules.specs.CaseFigures.{withNonbusiness, withHoliday, withDefaults, withResponsible, withMonths, withUsed, withRk, withRt}
 use Rattle.rules.specs.DayFile.{fileNames}
 use Rattle.rules.specs.Ledger.{post, withdraw}
-use Rattle.rules.proofs.Worked.{postCause, withdrawCause, controlCause, controlWords, minus, isSigned, isDate, book, own, on, sold, balanceIs, bothAre, acquiredIs, case, generator, marginIs, imbalanceIs, yekIs, tradingIs, tables, priceIs, recordableIs, nets, short, twoRows, wild, dear, totalIs, sample, emptyBlocks, fileIs, fileBalanceIs, controlIs, statusIs, chain, august, september, oneDay, computed}
+use Rattle.rules.proofs.Worked.{postCause, withdrawCause, controlCause, controlWords, minus, isSigned, isDate, book, defaultBook, own, on, sold, balanceIs, bothAre, acquiredIs, case, generator, marginIs, imbalanceIs, yekIs, tradingIs, tables, priceIs, recordableIs, nets, short, twoRows, wild, dear, totalIs, sample, emptyBlocks, fileIs, fileBalanceIs, controlIs, statusIs, chain, august, september, oneDay, computed}
 
+-- where a line names no tolerance, R is 110 and TM 600,000, named at opening (02, T-12)
 pub starred : List Bool
 starred =
     bothAre [] (minus 60000000) false
@@ -96,8 +97,12 @@ further =
     ∷ fileIs [] 0 0
     -- the sample of 01; its counterparty is named; a file one word short
     ∷ fileIs sample 0 2
-    ∷ fileBalanceIs sample 1 (pos 10000000)
-    ∷ fileBalanceIs sample 2 (minus 77000000)
+    -- in a book opened without figures: 70,000,000 - 105 × 500,000, and - 105 × 700,000 (02, T-12)
+    ∷ fileBalanceIs defaultBook sample 1 (pos 17500000)
+    ∷ fileBalanceIs defaultBook sample 2 (minus 73500000)
+    -- in one opened with 110 and 600,000: 70,000,000 - 60,000,000, and - 110 × 700,000
+    ∷ fileBalanceIs (book []) sample 1 (pos 10000000)
+    ∷ fileBalanceIs (book []) sample 2 (minus 77000000)
     ∷ fileNames sample 2 9000
     ∷ fileIs (take 28 sample) 2 0
     ∷ isDate (dateOf 36524) 2099 12 31

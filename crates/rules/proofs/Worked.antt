@@ -15,7 +15,7 @@ use Rattle.numbers.specs.Signed.{sumℤ}
 use Rattle.calendar.specs.Calendar.{Date, dateOf, monthOf, monthFrom, monthStart, monthLength, daysIn, isLeap}
 use Rattle.rules.specs.Entry.{Key, keyOf, statusWhere, counterpartyOk, amountLimit, fault, markOk, statusOk, legal}
 use Rattle.rules.specs.Words.{encode, decode, entryOk, entriesOk, readEntries, isBook, entries, encodeAll, usedWords, laid}
-use Rattle.rules.specs.Book.{openCause, openWords, isClosed, shutTo, postRefusal, entryAt, withdrawRefusal, withdrawnAt}
+use Rattle.rules.specs.Book.{openCause, openWords, openDefaultWords, isClosed, shutTo, postRefusal, entryAt, withdrawRefusal, withdrawnAt}
 use Rattle.rules.specs.Balance.{Volume, dayAhead, delivery, counted, countedTo, sumOf, boughtBy, tallyOf, acquired, saleSide, coverSide, balanceOf, balance, isDetected, partyDayCause, balanceAnswer, tallyAnswer}
 use Rattle.rules.specs.Month.{Tables, monthCause, weightedPrices, weights, aosmf, aedm, monthFigures, monthAnswer}
 use Rattle.rules.specs.Collateral.{noMonth, plainCase, generationMargin, margin, tradingDays, debtOf, debts, debt, quarters, trading, highestPrice, lowestVolume, imbalanceOver, imbalance, risk, yek, totalOf, monthOk, figuresOk, collateralCause, collateralOf, collateralAnswer}
@@ -50,6 +50,10 @@ sameNumbers (x ∷ xs) (y ∷ ys) = eqb x y && sameNumbers xs ys
 -- a book for ten entries with R 110 and TM 600,000, after these calls
 abbrev pub book : List Call → List ℕ
 book cs = bookAfter (openWords (replicate 53 0) 110 600000) cs
+
+-- a book for ten entries, opened without figures
+abbrev pub defaultBook : List ℕ
+defaultBook = openDefaultWords (replicate 53 0)
 
 -- the cause of each call, and the words that it leaves
 abbrev pub postCause : List ℕ → Key → ℕ → ℕ
@@ -172,10 +176,11 @@ emptyBlocks w x = bytes (w ∷ x ∷ [])
 abbrev pub fileIs : List ℕ → ℕ → ℕ → Bool
 fileIs bs cause lines = eqb (fileAnswer (book []) bs .answer) cause && eqb (fileAnswer (book []) bs .posted) lines
 
-abbrev pub fileBalanceIs : List ℕ → ℕ → ℤ → Bool
-fileBalanceIs bs p z =
-    isSigned (balanceAnswer dayAhead (fileWords (book []) bs) p 9000 .balance) z
-    && isSigned (balanceAnswer delivery (fileWords (book []) bs) p 9000 .balance) z
+-- both balances of a party on day 9,000, after a file was read into this book
+abbrev pub fileBalanceIs : List ℕ → List ℕ → ℕ → ℤ → Bool
+fileBalanceIs ws bs p z =
+    isSigned (balanceAnswer dayAhead (fileWords ws bs) p 9000 .balance) z
+    && isSigned (balanceAnswer delivery (fileWords ws bs) p 9000 .balance) z
 
 -- a control of these words answers these counts
 abbrev pub controlIs : List ℕ → ℕ → ℕ → ℕ → ℕ → Bool

@@ -12,13 +12,7 @@ use Rattle.rules.specs.Words.{Frame, word, decode, isBook, entries, coun
 use Rattle.rules.specs.declared.Counted.{Counted}
 use Rattle.rules.specs.declared.EntryRead.{EntryRead}
 
--- Opening writes three words (01, 'The words'); without figures R is 110 and TM 600,000
-abbrev pub defaultCoefficient : ℕ
-defaultCoefficient = 110
-
-abbrev pub defaultTolerance : ℕ
-defaultTolerance = 600000
-
+-- Opening writes three words (01, 'The words')
 unfoldable pub openCause : ℕ → ℕ → ℕ → ℕ
 openCause lent R TM =
     firstOf (unless (leb 3 lent) badLength ∷ unless (leb R mostCoefficient && leb TM mostTolerance) badFigure ∷ [])
@@ -26,6 +20,19 @@ openCause lent R TM =
 unfoldable pub openWords : List ℕ → ℕ → ℕ → List ℕ
 openWords ws R TM =
     ifDone (openCause (length ws) R TM) (set (set (set ws 0 (word 6 0)) 1 (word 7 R)) 2 (word 8 TM)) ws
+
+-- an opening that names no figures writes R 105 and TM 500,000 (02, T-12)
+abbrev pub defaultCoefficient : ℕ
+defaultCoefficient = 105
+
+abbrev pub defaultTolerance : ℕ
+defaultTolerance = 500000
+
+abbrev pub openDefaultCause : ℕ → ℕ
+openDefaultCause lent = openCause lent defaultCoefficient defaultTolerance
+
+abbrev pub openDefaultWords : List ℕ → List ℕ
+openDefaultWords ws = openWords ws defaultCoefficient defaultTolerance
 
 -- a day with a mark is closed (01, 'Control of a day')
 abbrev pub isMarkOf : ℕ → Record → Bool

@@ -14,16 +14,17 @@ pub const MOST_VOLUME: u64 = 1000000000;
 
 pub const MOST_MONEY: u64 = 1000000000000;
 
-// A book (01, 'The words'), and the figures of an opening that names none.
+// A book (01, 'The words').
 pub const MOST_ENTRIES: usize = 3072;
 
 pub const MOST_COEFFICIENT: u32 = 1000;
 
 pub const MOST_TOLERANCE: u32 = 200000000;
 
-pub const DEFAULT_COEFFICIENT: u32 = 110;
+// The figures of an opening that names none (02, T-12).
+pub const DEFAULT_COEFFICIENT: u32 = 105;
 
-pub const DEFAULT_TOLERANCE: u32 = 600000;
+pub const DEFAULT_TOLERANCE: u32 = 500000;
 
 // Month tables: hours, groups, figures of all groups, and each figure (01, 'Month step').
 pub const MOST_HOURS: usize = 745;

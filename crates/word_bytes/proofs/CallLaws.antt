@@ -113,8 +113,15 @@ abbrev Written : List ℕ → List ℕ → List ℕ → ℕ → ℕ → (List �
 Written bs ws vs n answer leaves = ifDone answer (overBytes (take n (vs ++ drop n ws)) bs) bs ≡ withWords bs leaves
 
 module _ {bs ws vs : List ℕ} {n answer : ℕ} (bytes : Bytes bs) (d : Decoded bs ws n) (array : length ws ≡ bookWords) (kept : length vs ≡ length (take n ws)) where
-  pub open-bytes : (R TM : ℕ) → vs ≡ openWords (take n ws) R TM → answer ≡ openCause (length (take n ws)) R TM → Written bs ws vs n answer (λ us. openWords us R TM)
+  open-bytes : (R TM : ℕ) → vs ≡ openWords (take n ws) R TM → answer ≡ openCause (length (take n ws)) R TM → Written bs ws vs n answer (λ us. openWords us R TM)
   open-bytes R TM = written-bytes (openCall bs R TM) bytes d array kept
+
+  -- an opening of the words read, written back: its answer and the bytes after it
+  pub open-written : (R TM : ℕ) {after : List ℕ} → isWhole bs ≡ true →
+      (answer ≡ openCause (length (take n ws)) R TM) × (vs ≡ openWords (take n ws) R TM) →
+      after ≡ ifDone answer (overBytes (take n (vs ++ drop n ws)) bs) bs →
+      (answer ≡ onWords bs (λ us. openCause (length us) R TM) notABook) × (after ≡ withWords bs (λ us. openWords us R TM))
+  open-written R TM w o written = (o .0 ∙ on-open d R TM w, written ∙ open-bytes R TM (o .1) (o .0))
 
   pub change-bytes : (c : Change) → vs ≡ wordsAfter (take n ws) c → answer ≡ causeOf (take n ws) c → Written bs ws vs n answer (λ us. wordsAfter us c)
   change-bytes c = written-bytes (changeCall bs c) bytes d array kept

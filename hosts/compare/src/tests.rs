@@ -40,9 +40,11 @@ fn no_difference_where_there_is_none() {
 #[test]
 fn worked_figures() {
     let worked = figures(&Second);
-    assert_eq!((worked.compared, worked.failed), (64, 0));
+    assert_eq!((worked.compared, worked.failed), (88, 0));
     for slip in [
-        "open_default: TM 500,000",
+        "open_default: the old coefficient",
+        "open_default: the old tolerance",
+        "open_default: R and TM are swapped",
         "delivery: tender and import are added",
         "detected: zero too",
         "month: halves down",
@@ -182,8 +184,14 @@ impl Engine for Wrong {
     }
 
     fn open_default(&self, book: &mut [u8]) -> u32 {
-        if self.slips("open_default: TM 500,000") {
+        if self.slips("open_default: the old coefficient") {
             return Second.open(book, 110, 500_000);
+        }
+        if self.slips("open_default: the old tolerance") {
+            return Second.open(book, 105, 600_000);
+        }
+        if self.slips("open_default: R and TM are swapped") {
+            return Second.open(book, 500_000, 105);
         }
         Second.open_default(book)
     }
@@ -735,7 +743,7 @@ impl Wrong {
     }
 }
 
-const SLIPS: [&str; 73] = [
+const SLIPS: [&str; 75] = [
     "is_book: status 3 is allowed",
     "is_book: a cancelled export is allowed",
     "is_book: more than 3,072 entries are allowed",
@@ -744,7 +752,9 @@ const SLIPS: [&str; 73] = [
     "open: clears the words behind",
     "open: writes on a refusal",
     "open: ranges before the length",
-    "open_default: TM 500,000",
+    "open_default: the old coefficient",
+    "open_default: the old tolerance",
+    "open_default: R and TM are swapped",
     "post: reaches the book on the first call only",
     "post: the high bits of an amount are lost",
     "post: a closed day refuses exports too",

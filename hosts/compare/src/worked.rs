@@ -1,5 +1,6 @@
 //! The worked figures of document 01, 'Figures to hold it to', and the sample
-//! of its day file, on an engine. The numbers are the paper's own.
+//! of its day file, on an engine. The numbers are the papers' own; where 01
+//! names no tolerance, R is 110 and TM 600,000, named at opening (02, T-12).
 
 use crate::engine::{bytes, Engine, Post, Tables};
 use second::{Case, Collateral, Controlled, FileRead, Month};
@@ -16,6 +17,7 @@ pub struct Worked<'a, E: Engine> {
 pub fn figures<E: Engine>(engine: &E) -> Worked<'_, E> {
     let mut worked = Worked { engine, compared: 0, failed: 0 };
     worked.balances();
+    worked.opened_without_figures();
     worked.margins();
     worked.months();
     worked.items();
@@ -34,33 +36,44 @@ impl<E: Engine> Worked<'_, E> {
         }
     }
 
-    /// A default book with entries of party, day, type, counterparty and amount.
+    /// A book with R 110 and TM 600,000, and entries of party, day, type, counterparty and amount.
     fn book(&mut self, entries: &[(u32, u32, u32, u32, u64)]) -> Vec<u8> {
         let mut book = vec![0; 12 + 20 * (entries.len() + 2)];
+        self.holds("opening", self.engine.open(&mut book, 110, 600_000), 0);
+        self.posts(&mut book, entries);
+        book
+    }
+
+    /// A book opened without figures, and such entries.
+    fn default_book(&mut self, entries: &[(u32, u32, u32, u32, u64)]) -> Vec<u8> {
+        let mut book = vec![0; 12 + 20 * (entries.len() + 2)];
         self.holds("opening without figures", self.engine.open_default(&mut book), 0);
+        self.posts(&mut book, entries);
+        book
+    }
+
+    fn posts(&mut self, book: &mut [u8], entries: &[(u32, u32, u32, u32, u64)]) {
         for &(party, day, entry_type, counterparty, amount) in entries {
             let post = Post { party, day, entry_type, counterparty, amount };
-            self.holds("a post", self.engine.post(&mut book, post).answer, 0);
+            self.holds("a post", self.engine.post(book, post).answer, 0);
         }
-        book
+    }
+
+    /// Both balances of a party on a day.
+    fn both(&mut self, what: &str, book: &[u8], (party, day): (u32, u32), balance: i64) {
+        let ahead = self.engine.day_ahead(book, party, day).balance;
+        let due = self.engine.delivery(book, party, day).balance;
+        self.holds(what, (ahead, due), (balance, balance));
+        self.holds(what, self.engine.detected(ahead), u32::from(balance > 0));
     }
 
     fn balances(&mut self) {
         let book = self.book(&[]);
-        self.holds(
-            "opening without figures",
-            &book[..12],
-            &bytes(&[0x6000_0000, 0x7000_006E, 0x8009_27C0]),
-        );
-        self.holds("no entries", self.engine.day_ahead(&book, 1, 0).balance, -60_000_000);
-        self.holds("no entries", self.engine.delivery(&book, 1, 0).balance, -60_000_000);
-        for (amount, balance, detected) in [(600_000, 0, 0), (600_001, 100, 1)] {
+        self.holds("opening", &book[..12], &bytes(&[0x6000_0000, 0x7000_006E, 0x8009_27C0]));
+        self.both("no entries", &book, (1, 0), -60_000_000);
+        for (amount, balance) in [(600_000, 0), (600_001, 100)] {
             let book = self.book(&[(1, 9_000, 1, 0, amount)]);
-            let (ahead, due) =
-                (self.engine.day_ahead(&book, 1, 9_000), self.engine.delivery(&book, 1, 9_000));
-            self.holds("a sale's day-ahead balance", ahead.balance, balance);
-            self.holds("a sale's delivery balance", due.balance, balance);
-            self.holds("a sale detected", self.engine.detected(balance), detected);
+            self.both("a sale", &book, (1, 9_000), balance);
         }
         // 110 hundredths of A = 300,000 are less than the tolerance, so a coefficient of 1,000 shows A.
         let mut book = vec![0; 12 + 20 * 2];
@@ -70,6 +83,20 @@ impl<E: Engine> Worked<'_, E> {
             self.holds("a post", self.engine.post(&mut book, post).answer, 0);
         }
         self.holds("tender and import", self.engine.delivery(&book, 1, 5).balance, -300_000_000);
+    }
+
+    /// R 105 and TM 500,000 (02, T-12): 105 × 476,190 is below 50,000,000, 105 × 476,191 is 50,000,055.
+    fn opened_without_figures(&mut self) {
+        let book = self.default_book(&[]);
+        let stated = bytes(&[0x6000_0000, 0x7000_0069, 0x8007_A120]);
+        self.holds("opening without figures", &book[..12], &stated);
+        self.both("no entries, no figures", &book, (1, 0), -50_000_000);
+        for (entry_type, amount, balance) in
+            [(1, 500_000, 0), (1, 500_001, 100), (12, 476_190, -50_000_000), (12, 476_191, -50_000_055)]
+        {
+            let book = self.default_book(&[(1, 9_000, entry_type, 0, amount)]);
+            self.both("one entry, no figures", &book, (1, 9_000), balance);
+        }
     }
 
     fn collateral(&mut self, book: &[u8], case: Case) -> Collateral {
@@ -138,20 +165,14 @@ impl<E: Engine> Worked<'_, E> {
             0x4007_A120,
             0x5000_0000,
         ]);
-        let mut book = self.book(&[]);
-        let read = self.engine.read_file(&mut book, &file);
-        self.holds("the sample's lines", read, FileRead { answer: 0, posted: 2 });
-        for (party, balance) in [(1, 10_000_000), (2, -77_000_000)] {
-            self.holds(
-                "the sample's day-ahead",
-                self.engine.day_ahead(&book, party, 9_000).balance,
-                balance,
-            );
-            self.holds(
-                "the sample's delivery",
-                self.engine.delivery(&book, party, 9_000).balance,
-                balance,
-            );
+        let (opened, named) = (self.default_book(&[]), self.book(&[]));
+        for (mut book, first, second) in
+            [(opened, 17_500_000, -73_500_000), (named, 10_000_000, -77_000_000)]
+        {
+            let read = self.engine.read_file(&mut book, &file);
+            self.holds("the sample's lines", read, FileRead { answer: 0, posted: 2 });
+            self.both("the sample's seller", &book, (1, 9_000), first);
+            self.both("the sample's buyer", &book, (2, 9_000), second);
         }
     }
 

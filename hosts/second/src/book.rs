@@ -13,8 +13,8 @@ pub const MOST_VOLUME: u64 = 1_000_000_000;
 pub const MOST_MONEY: u64 = 1_000_000_000_000;
 pub const MOST_COEFFICIENT: u32 = 1_000;
 pub const MOST_TOLERANCE: u32 = 200_000_000;
-pub const DEFAULT_COEFFICIENT: u32 = 110;
-pub const DEFAULT_TOLERANCE: u32 = 600_000;
+pub const DEFAULT_COEFFICIENT: u32 = 105;
+pub const DEFAULT_TOLERANCE: u32 = 500_000;
 
 pub const STANDING: u32 = 0;
 pub const WITHDRAWN: u32 = 1;
@@ -219,7 +219,7 @@ pub fn open(words: &mut [u32], r: u32, tm: u32) -> u32 {
     0
 }
 
-/// Opens a book with R 110 and TM 600,000.
+/// Opens a book with the figures of document 02, T-12.
 pub fn open_default(words: &mut [u32]) -> u32 {
     open(words, DEFAULT_COEFFICIENT, DEFAULT_TOLERANCE)
 }

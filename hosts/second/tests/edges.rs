@@ -844,7 +844,7 @@ fn files_without_lines() {
     assert_eq!(read(&mut words, &[0x1000_0001, 0x2000_8EAD]), (4, 0));
     assert_eq!(balance_output(&[]), b"party day ahead delivery\n");
     let file = bytes(&[0x1000_0007, 0x2000_0003, 0x1000_0002, 0x2000_0009]);
-    let text = "party day ahead delivery\n2 9 -60000000 -60000000\n7 3 -60000000 -60000000\n";
+    let text = "party day ahead delivery\n2 9 -50000000 -50000000\n7 3 -50000000 -50000000\n";
     assert_eq!(balance_output(&file), text.as_bytes());
 }
 
@@ -980,8 +980,8 @@ fn named_parties_once_each() {
         0x2000_0002,
     ]);
     assert_eq!(named(&file), [(3, 2), (5, 1), (5, 2)]);
-    let text = "party day ahead delivery\n3 2 -60000000 -60000000\n5 1 -60000000 -60000000\n\
-                5 2 -59999700 -59999700\n";
+    let text = "party day ahead delivery\n3 2 -50000000 -50000000\n5 1 -50000000 -50000000\n\
+                5 2 -49999700 -49999700\n";
     assert_eq!(balance_output(&file), text.as_bytes());
 }
 

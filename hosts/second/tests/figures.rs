@@ -1,7 +1,15 @@
 //! Every figure of document 01, 'Figures to hold it to' and the sample of the
-//! day file, against the second calculation.
+//! day file, against the second calculation. Where a line names no tolerance,
+//! R is 110 and TM 600,000, named at opening (document 02, T-12).
 
 use second::*;
+
+/// A book of so many places with R 110 and TM 600,000.
+fn starred_book(places: usize) -> Vec<u32> {
+    let mut words = vec![0xFFFF_FFFF; 3 + 5 * places];
+    assert_eq!(open(&mut words, 110, 600_000), 0);
+    words
+}
 
 /// A book of so many places, opened without figures.
 fn default_book(places: usize) -> Vec<u32> {
@@ -19,14 +27,32 @@ fn posted(words: &mut [u32], party: u32, day: u32, entry_type: u32, other: u32, 
 #[test]
 fn opening_without_figures() {
     let words = default_book(0);
-    assert_eq!(words, [0x6000_0000, 0x7000_006E, 0x8009_27C0]);
-    assert_eq!(decode(&words).unwrap().coefficient, 110);
-    assert_eq!(decode(&words).unwrap().tolerance, 600_000);
+    assert_eq!(words, [0x6000_0000, 0x7000_0069, 0x8007_A120]);
+    assert_eq!(decode(&words).unwrap().coefficient, 105);
+    assert_eq!(decode(&words).unwrap().tolerance, 500_000);
+}
+
+#[test]
+fn balances_of_a_book_opened_without_figures() {
+    // 105 x 476,190 is below 50,000,000, 105 x 476,191 is 50,000,055.
+    for (cover, expected) in [(0, -50_000_000), (476_190, -50_000_000), (476_191, -50_000_055)] {
+        let mut words = default_book(1);
+        posted(&mut words, 1, 9_000, 12, 0, cover);
+        assert_eq!(day_ahead(&words, 1, 9_000).balance, expected);
+        assert_eq!(delivery(&words, 1, 9_000).balance, expected);
+    }
+    for (sale, expected) in [(500_000, 0), (500_001, 100)] {
+        let mut words = default_book(1);
+        posted(&mut words, 1, 9_000, 1, 0, sale);
+        let balance = day_ahead(&words, 1, 9_000).balance;
+        assert_eq!(balance, expected);
+        assert_eq!(detected(balance), expected > 0);
+    }
 }
 
 #[test]
 fn no_entries() {
-    let words = default_book(0);
+    let words = starred_book(0);
     assert_eq!(day_ahead(&words, 1, 0), BalanceAnswer { answer: 0, balance: -60_000_000 });
     assert_eq!(delivery(&words, 999, 36_524), BalanceAnswer { answer: 0, balance: -60_000_000 });
 }
@@ -34,7 +60,7 @@ fn no_entries() {
 #[test]
 fn sale_of_600_000_is_clear() {
     for entry_type in 1..=6 {
-        let mut words = default_book(1);
+        let mut words = starred_book(1);
         let other = if entry_type == 6 { 2 } else { 0 };
         posted(&mut words, 1, 9_000, entry_type, other, 600_000);
         let balance = delivery(&words, 1, 9_000).balance;
@@ -50,7 +76,7 @@ fn sale_of_600_000_is_clear() {
 #[test]
 fn sale_of_600_001_is_detected() {
     for entry_type in 1..=6 {
-        let mut words = default_book(1);
+        let mut words = starred_book(1);
         let other = if entry_type == 6 { 2 } else { 0 };
         posted(&mut words, 1, 9_000, entry_type, other, 600_001);
         let balance = delivery(&words, 1, 9_000).balance;
@@ -73,7 +99,7 @@ fn tender_300_000_and_import_200_000() {
 }
 
 fn generation(capacity: u64) -> u64 {
-    let words = default_book(0);
+    let words = starred_book(0);
     let case = Case { party: 1, licence: 2, capacity, ..Case::supplier() };
     let answer = collateral(&words, &case);
     assert_eq!(answer.answer, 0);
@@ -102,7 +128,7 @@ fn month_without_hours() {
 
 #[test]
 fn imbalance_rounds_up() {
-    let words = default_book(0);
+    let words = starred_book(0);
     let mut case = Case { party: 1, day: 100, rk: 110, used: 1, ..Case::supplier() };
     case.months[0] = Month { aosmf: 175_000, aedm: -2_001 };
     let answer = collateral(&words, &case);
@@ -112,7 +138,7 @@ fn imbalance_rounds_up() {
 
 #[test]
 fn trading_of_four_days() {
-    let mut words = default_book(4);
+    let mut words = starred_book(4);
     let g = 1_000;
     posted(&mut words, 1, g - 1, 17, 0, 900);
     posted(&mut words, 1, g - 2, 18, 0, 500);
@@ -126,7 +152,7 @@ fn trading_of_four_days() {
 
 #[test]
 fn yek_shares() {
-    let words = default_book(0);
+    let words = starred_book(0);
     let case = Case { party: 1, yt: 1_000, best: 3, score: 1, ..Case::supplier() };
     assert_eq!(collateral(&words, &case).yek, 667);
     for best in [1, 3, 5, 10_000] {
@@ -186,9 +212,15 @@ const SAMPLE: [u32; 8] = [
 #[test]
 fn sample_of_the_day_file() {
     let file = bytes(&SAMPLE);
-    let text = "party day ahead delivery\n1 9000 10000000 10000000\n2 9000 -77000000 -77000000\n";
+    let text = "party day ahead delivery\n1 9000 17500000 17500000\n2 9000 -73500000 -73500000\n";
     assert_eq!(balance_output(&file), text.as_bytes());
     assert_eq!(named(&file), [(1, 9_000), (2, 9_000)]);
+
+    // A book opened with 110 and 600,000 keeps them.
+    let mut words = starred_book(3_072);
+    assert_eq!(read_file(&mut words, &file), FileRead { answer: 0, posted: 2 });
+    assert_eq!(day_ahead(&words, 1, 9_000).balance, 10_000_000);
+    assert_eq!(delivery(&words, 2, 9_000).balance, -77_000_000);
 
     let mut words = default_book(3_072);
     assert_eq!(read_file(&mut words, &file), FileRead { answer: 0, posted: 2 });

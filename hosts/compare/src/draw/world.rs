@@ -56,13 +56,15 @@ impl World {
         let coefficient = match rng.below(10) {
             0 => 0,
             1..=3 => 100,
-            4 | 5 => 110,
+            4 => 105,
+            5 => 110,
             6 => rng.pick(&[1, 99, 101, 999, 1_000]),
             _ => rng.between(0, u64::from(MOST_COEFFICIENT)) as u32,
         };
         let tolerance = match rng.below(10) {
             0..=3 => 0,
-            4 | 5 => 600_000,
+            4 => 500_000,
+            5 => 600_000,
             6 => rng.pick(&[1, 2, 100, MOST_TOLERANCE - 1, MOST_TOLERANCE]),
             7 | 8 => rng.between(0, 1_000) as u32,
             _ => rng.between(0, u64::from(MOST_TOLERANCE)) as u32,

@@ -1,9 +1,8 @@
 -- `host::books::fanzsoreb_open` meets its contract. Assumes nothing.
-use mathlib.Core.Path.{_∙_}
 use borrow.Author.Needs.{needs}
 use borrow.Author.Tests.{eq-eqb}
 use Rattle.word_bytes.proofs.CodingLaws.{parts}
-use Rattle.word_bytes.proofs.CallLaws.{open-odd, on-open, open-bytes}
+use Rattle.word_bytes.proofs.CallLaws.{open-odd, open-written}
 use Rattle.host.proofs.books.fanzsoreb_open.Statement.{statement}
 use Rattle.host.proofs.books.fanzsoreb_open.Tie as tie
 
@@ -44,11 +43,11 @@ returns-2 c =
     let decoded = opened .before .before .before in
     let whole = decoded .before .before .before in
     let d = decoded .decode in
-    let o = opened .«open» in (
-      o .ensures .0 ∙ on-open (d .ensures) _ _ (eq-eqb _ _ (whole .if1 .left)),
-      written .write-back .ensures
-          ∙ open-bytes (λ i. whole .before .slice-known .given i .fits) (d .ensures) (d .kept .1 .0) (o .kept .0) _ _ (o .ensures .1) (o .ensures .0),
-    )
+    let o = opened .«open» in
+    open-written (λ i. whole .before .slice-known .given i .fits) (d .ensures) (d .kept .1 .0) (o .kept .0) _ _
+    (eq-eqb _ _ (whole .if1 .left))
+    (o .ensures)
+    (written .write-back .ensures)
 
 pub fanzsoreb-open-spec : {M : Type 1} → statement M
 fanzsoreb-open-spec =
