@@ -31,7 +31,7 @@ pub extern "C" fn fanzsoreb_open(book: &mut [u8], coefficient: u32, tolerance: u
     ensures answer { λ r. ⌜ r ≡ onWords (now (book .entry)) (λ ws. openCause (length ws) coefficient tolerance) notABook ⌝ }
     ensures bytes { λ r. ⌜ now (book .exit) ≡ withWords (now (book .entry)) (λ ws. openWords ws coefficient tolerance) ⌝ }
 {
-    if book.len() % 4 != 0 {
+    if !word_bytes::is_whole(book) {
         return NOT_A_BOOK;
     }
     let mut words = [0u32; BOOK_WORDS];
@@ -47,7 +47,7 @@ pub extern "C" fn fanzsoreb_open_default(book: &mut [u8]) -> u32
     ensures answer { λ r. ⌜ r ≡ onWords (now (book .entry)) (λ ws. openDefaultCause (length ws)) notABook ⌝ }
     ensures bytes { λ r. ⌜ now (book .exit) ≡ withWords (now (book .entry)) openDefaultWords ⌝ }
 {
-    if book.len() % 4 != 0 {
+    if !word_bytes::is_whole(book) {
         return NOT_A_BOOK;
     }
     let mut words = [0u32; BOOK_WORDS];

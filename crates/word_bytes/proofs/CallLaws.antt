@@ -1,13 +1,11 @@
 -- Each call on the words that the code reads of a book's bytes: its answer is the answer on the bytes, and what it leaves goes back to the bytes. Assumes nothing.
 use mathlib.Core.Path.{_≡_, refl, ap, ap₂, _∙_}
-use mathlib.Core.Logic.{_≢_}
-use mathlib.Core.Bool.{true}
+use mathlib.Core.Bool.{true, false}
 use mathlib.Core.List.{List, [], _++_}
 use native.Mathlib.Omega.{arith}
-use Prim.Native.Nat.{ℕ, _%_}
+use Prim.Native.Nat.{ℕ}
 use lib.IntN.{pos}
 use lib.ListN.{length, take, drop}
-use borrow.Author.Tests.{ne-eqb}
 use Rattle.numbers.specs.Causes.{ifDone}
 use Rattle.rules.specs.Refusals.{notABook}
 use Rattle.rules.specs.Words.{isBook, bookWords}
@@ -79,9 +77,9 @@ module _ {bs ws : List ℕ} {n : ℕ} (r : Decoded bs ws n) where
 
 module _ (bs : List ℕ) where
   -- opening answers 1 where the bytes make no whole words, though no words are 11
-  pub open-odd : (R TM : ℕ) → length bs % 4 ≢ 0 → (notABook ≡ onWords bs (λ ws. openCause (length ws) R TM) notABook) × (bs ≡ withWords bs (λ ws. openWords ws R TM))
+  pub open-odd : (R TM : ℕ) → isWhole bs ≡ false → (notABook ≡ onWords bs (λ ws. openCause (length ws) R TM) notABook) × (bs ≡ withWords bs (λ ws. openWords ws R TM))
   unfolding onWords withWords
-  open-odd R TM h = rw (ne-eqb (length bs % 4) 0 h) (refl, refl)
+  open-odd R TM h = rw h (refl, refl)
 
   no-open : (R TM : ℕ) → openWords [] R TM ≡ []
   unfolding openCause openWords

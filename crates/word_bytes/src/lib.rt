@@ -6,7 +6,7 @@ ghost use lib.ListN.{length, take, drop};
 ghost use Rattle.rules.specs.Words.{bookWords};
 ghost use Rattle.numbers.specs.Causes.{ifDone};
 ghost use Rattle.rules.specs.DayFile.{wordsOf};
-ghost use Rattle.word_bytes.specs.Bytes.{bytesOf};
+ghost use Rattle.word_bytes.specs.Bytes.{bytesOf, isWhole};
 ghost use Rattle.word_bytes.specs.Coding.{wordAt, overBytes, countIn, Decoded};
 use rules::layout::BOOK_WORDS;
 
@@ -59,11 +59,18 @@ fn encode(words: &[u32], bytes: &mut [u8])
     }
 }
 
+// Whether the bytes make whole words.
+pub fn is_whole(bytes: &[u8]) -> bool
+    ensures { λ r. ⌜ r ≡ isWhole (now (bytes .entry)) ⌝ }
+{
+    bytes.len() % 4 == 0
+}
+
 // How many words a book has: none where its bytes make no whole words, and no more than a full book's.
 fn count_words(bytes: &[u8]) -> usize
     ensures { λ r. ⌜ r ≡ countIn (now (bytes .entry)) ⌝ }
 {
-    if bytes.len() % 4 != 0 {
+    if !is_whole(bytes) {
         return 0;
     }
     if BOOK_WORDS < bytes.len() / 4 {

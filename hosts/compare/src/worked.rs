@@ -91,9 +91,12 @@ impl<E: Engine> Worked<'_, E> {
         let stated = bytes(&[0x6000_0000, 0x7000_0069, 0x8007_A120]);
         self.holds("opening without figures", &book[..12], &stated);
         self.both("no entries, no figures", &book, (1, 0), -50_000_000);
-        for (entry_type, amount, balance) in
-            [(1, 500_000, 0), (1, 500_001, 100), (12, 476_190, -50_000_000), (12, 476_191, -50_000_055)]
-        {
+        for (entry_type, amount, balance) in [
+            (1, 500_000, 0),
+            (1, 500_001, 100),
+            (12, 476_190, -50_000_000),
+            (12, 476_191, -50_000_055),
+        ] {
             let book = self.default_book(&[(1, 9_000, entry_type, 0, amount)]);
             self.both("one entry, no figures", &book, (1, 9_000), balance);
         }
