@@ -47,13 +47,14 @@
 extern "C" {
 #endif
 
-/* 1.0.1: major x 10,000 + minor x 100 + patch. A changed struct or signature raises the major number, a new call the
+/* 1.1.0: major x 10,000 + minor x 100 + patch. A changed struct or signature raises the major number, a new call the
  * minor one, any other change the patch. */
-#define FANZSOREB_VERSION 10001
+#define FANZSOREB_VERSION 10100
 
 #define FANZSOREB_MOST_ENTRIES 3072      /* of a book */
 #define FANZSOREB_BOOK_BYTES 61452       /* of a book with room for as many, 12 + 20 x 3,072 */
 #define FANZSOREB_MOST_FILE_BYTES 65536  /* of a day file */
+#define FANZSOREB_HORIZON_MONTHS 4800    /* of fanzsoreb_first_day: January 2000 to December 2399 */
 
 /* Why a call comes back. */
 enum fanzsoreb_cause {
@@ -124,6 +125,7 @@ typedef struct {
 } fanzsoreb_month_figures;
 typedef struct { uint32_t answer; fanzsoreb_month_figures month; } fanzsoreb_month_answer;
 typedef struct { uint32_t answer; uint32_t recordable; } fanzsoreb_ceiling_answer;
+typedef struct { uint32_t answer; uint32_t day; } fanzsoreb_first_day_answer;
 typedef struct { uint32_t answer, first, second, cancelled; } fanzsoreb_controlled;
 typedef struct { uint32_t answer; uint32_t posted; } fanzsoreb_file_read;
 typedef struct {
@@ -184,6 +186,12 @@ uint32_t fanzsoreb_detected(int64_t balance);
 /* Whether a settlement period's offer is recordable (1 or 0): offer, net bilateral purchase, net futures position and
  * capacity, each 0 to 10^9 kWh. Cause: 12. */
 fanzsoreb_ceiling_answer fanzsoreb_ceiling(uint32_t offer, uint32_t bilateral, uint32_t futures, uint32_t capacity);
+
+/* The first day of a month by the Gregorian calendar. Months are counted from January 2000, which is 0: month
+ * 12 x (year - 2000) + n - 1 is the nth of a year. 0 to 4,799, December 2399. Days are counted as everywhere, 0 is
+ * 2000-01-01, up to 146,066, the first of December 2399. A day above 36,524 is told here alone: every other call still
+ * refuses it by 4. Cause: 12. New in version 1.1.0. */
+fanzsoreb_first_day_answer fanzsoreb_first_day(uint32_t month);
 
 /* The month step, on three tables of 32-bit figures as bytes, little-endian, with lengths in bytes:
  *   prices     one an hour, 0 to 1,000,000 kurus per MWh, for 0 to 745 hours

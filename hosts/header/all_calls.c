@@ -83,6 +83,7 @@ int main(int count, char **arguments)
     CHECK(fanzsoreb_version() == FANZSOREB_VERSION);
     detection();
     ceilings();
+    first_days();
     for (offset = 0; offset < 4; offset++)
         at_offset(offset);
     null_pointers();

@@ -14,10 +14,11 @@
     HELD(type##_##field, offsetof(type, field) == (place) && sizeof(((type *)0)->field) == (bytes))
 #define VALUE(name, value) HELD(name##_value, (name) == (value))
 
-VALUE(FANZSOREB_VERSION, 10001);
+VALUE(FANZSOREB_VERSION, 10100);
 VALUE(FANZSOREB_MOST_ENTRIES, 3072);
 VALUE(FANZSOREB_BOOK_BYTES, 4 * (3 + 5 * 3072));
 VALUE(FANZSOREB_MOST_FILE_BYTES, 65536);
+VALUE(FANZSOREB_HORIZON_MONTHS, 4800);
 
 VALUE(FANZSOREB_DONE, 0);
 VALUE(FANZSOREB_NOT_A_BOOK, 1);
@@ -104,6 +105,10 @@ AT(fanzsoreb_month_answer, month, 8, 16);
 SIZE(fanzsoreb_ceiling_answer, 8);
 AT(fanzsoreb_ceiling_answer, answer, 0, 4);
 AT(fanzsoreb_ceiling_answer, recordable, 4, 4);
+
+SIZE(fanzsoreb_first_day_answer, 8);
+AT(fanzsoreb_first_day_answer, answer, 0, 4);
+AT(fanzsoreb_first_day_answer, day, 4, 4);
 
 SIZE(fanzsoreb_controlled, 16);
 AT(fanzsoreb_controlled, answer, 0, 4);

@@ -1,4 +1,4 @@
-/* Tally, both balances, detection, sales ceiling, month step (document 01, 'The two balances', 'Sales ceiling',
+/* Tally, both balances, detection, sales ceiling, first days, month step (document 01, 'The two balances', 'Sales ceiling',
  * 'Month step'). */
 
 /* The cause of a tally; a refused one has no figure. */
@@ -125,6 +125,51 @@ static void ceilings(void)
     CHECK(ceiling_cause(0, most + 1, 0, 0) == FANZSOREB_BAD_FIGURE);
     CHECK(ceiling_cause(0, 0, most + 1, 0) == FANZSOREB_BAD_FIGURE);
     CHECK(ceiling_cause(0, 0, 0, most + 1) == FANZSOREB_BAD_FIGURE);
+}
+
+/* The cause of a first day; a refused one is 0. */
+static uint32_t first_day_cause(uint32_t month)
+{
+    fanzsoreb_first_day_answer f = fanzsoreb_first_day(month);
+    CHECK(f.answer == FANZSOREB_DONE || f.day == 0);
+    return f.answer;
+}
+
+static uint32_t begins(uint32_t month)
+{
+    return fanzsoreb_first_day(month).day;
+}
+
+/* The days of a month, 0 to 11, of a year. */
+static uint32_t days_of(uint32_t year, uint32_t month)
+{
+    static const uint32_t days[] = { 31, 28, 31, 30, 31, 30, 31, 31, 30, 31, 30, 31 };
+    int leap = year % 4 == 0 && (year % 100 != 0 || year % 400 == 0);
+    return days[month] + (month == 1 && leap);
+}
+
+/* Each month begins where the one before ends, to the end of 2399. */
+static void every_month(void)
+{
+    uint32_t month, day = 0, wrong = 0;
+    for (month = 0; month < FANZSOREB_HORIZON_MONTHS; month++) {
+        wrong += fanzsoreb_first_day(month).day != day;
+        day += days_of(2000 + month / 12, month % 12);
+    }
+    CHECK(wrong == 0 && day == 146097);
+}
+
+/* Month 12 x (year - 2000) + n - 1 is the nth of a year (document 02, T-08). */
+static void first_days(void)
+{
+    CHECK(begins(0) == 0 && begins(1) == 31 && begins(2) == 60 && begins(11) == 335 && begins(12) == 366);
+    CHECK(begins(1199) == 36494 && begins(1200) == 36525 && first_day_cause(1200) == FANZSOREB_DONE);
+    CHECK(begins(1201) == 36556 && begins(1202) == 36584 && begins(1211) == 36859 && begins(1212) == 36890);
+    CHECK(begins(1250) == 38045 && begins(2402) == 73108 && begins(3602) == 109632);
+    CHECK(begins(4788) == 145732 && begins(FANZSOREB_HORIZON_MONTHS - 1) == 146066);
+    CHECK(first_day_cause(4799) == FANZSOREB_DONE && first_day_cause(4800) == FANZSOREB_BAD_FIGURE);
+    CHECK(first_day_cause(4294967295u) == FANZSOREB_BAD_FIGURE);
+    every_month();
 }
 
 /* Month tables in lent bytes, at any address. */

@@ -81,6 +81,7 @@ CALL(on_nothing, 0)
 CALL(on_version, fanzsoreb_version())
 CALL(on_detected, fanzsoreb_detected(1))
 CALL(on_ceiling, fanzsoreb_ceiling(1, 2, 3, 4).recordable)
+CALL(on_first_day, fanzsoreb_first_day(4799).day)
 CALL(on_is_book, fanzsoreb_is_book(book, lent))
 CALL(on_open, fanzsoreb_open(book, lent, 110, 0))
 CALL(on_open_default, fanzsoreb_open_default(book, lent))
@@ -132,6 +133,7 @@ static void stacks(void)
     NEEDS(on_version, 1);
     NEEDS(on_detected, 1);
     NEEDS(on_ceiling, 1);
+    NEEDS(on_first_day, 1);
     NEEDS(on_is_book, 64);
     NEEDS(on_post, 64);
     NEEDS(on_withdraw, 64);

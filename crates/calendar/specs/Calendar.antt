@@ -14,6 +14,11 @@ days = 36525
 unfoldable pub isLeap : ℕ → Bool
 isLeap y = eqb (y % 4) 0 && (not (eqb (y % 100) 0) || eqb (y % 400) 0)
 
+-- the leap days of the first n years from 2000 on
+unfoldable pub leapDays : ℕ → ℕ
+leapDays zero = 0
+leapDays (suc n) = leapDays n + cond (isLeap (2000 + n)) 1 0
+
 -- the days of a month, 1 to 12, of a year
 unfoldable pub daysIn : ℕ → ℕ → ℕ
 daysIn y m = cond (eqb m 2) (cond (isLeap y) 29 28) (cond (eqb m 4 || eqb m 6 || eqb m 9 || eqb m 11) 30 31)

@@ -2,6 +2,8 @@
 ghost use mathlib.Core.Path.{_≡_};
 ghost use Rattle.calendar.specs.Calendar.{monthOf};
 
+pub mod rule;
+
 // The first day of each month from January 2000, and the day after the last month.
 const MONTH_STARTS: [u32; 1201] = [
     0,

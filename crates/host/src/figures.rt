@@ -2,15 +2,17 @@
 ghost use mathlib.Core.Path.{_≡_};
 ghost use Prim.Native.Nat.{_+_, _*_};
 ghost use Rattle.rules.specs.Ceiling.{ceilingAnswer};
+ghost use Rattle.rules.specs.FirstDay.{firstDayAnswer};
 use rules::CeilingAnswer;
+use rules::FirstDayAnswer;
 
 // Major × 10,000 + minor × 100 + patch.
-const VERSION: u32 = 10001;
+const VERSION: u32 = 10100;
 
 // The version of the calls.
 #[no_mangle]
 pub extern "C" fn fanzsoreb_version() -> u32
-    ensures { λ r. ⌜ r ≡ 1 * 10000 + 0 * 100 + 1 ⌝ }
+    ensures { λ r. ⌜ r ≡ 1 * 10000 + 1 * 100 + 0 ⌝ }
 {
     VERSION
 }
@@ -26,4 +28,12 @@ pub extern "C" fn fanzsoreb_ceiling(
     ensures { λ r. ⌜ r ≡ ceilingAnswer offer bilateral futures capacity ⌝ }
 {
     ceiling::ceiling(offer, bilateral, futures, capacity)
+}
+
+// 12, or the first day of a month of the years 2000 to 2399 (02, T-08).
+#[no_mangle]
+pub extern "C" fn fanzsoreb_first_day(month: u32) -> FirstDayAnswer
+    ensures { λ r. ⌜ r ≡ firstDayAnswer month ⌝ }
+{
+    first_day::first_day(month)
 }

@@ -1,4 +1,5 @@
-// The month step and the sales ceiling against the list on standard input, whose figures are worked out by hand from document 01.
+// The month step, the sales ceiling and first days of months against the list on standard input, whose figures are worked out
+// by hand from documents 01 and 02.
 mod tables;
 
 use caselist::rows::Row;
@@ -38,6 +39,12 @@ fn offered(r: Row) -> bool {
     (got.answer as u64 == r.e) & (got.recordable as u64 == r.f)
 }
 
+// A month: the answer, and its first day.
+fn begun(r: Row) -> bool {
+    let got = first_day::first_day(low(r.a));
+    (got.answer as u64 == r.b) & (got.day as u64 == r.c)
+}
+
 // The month step on the tables as they stand.
 fn lend(prices: &[u32], imbalance: &[i32], dm: &[i32], r: Row, l: Lengths) -> bool {
     let hours = l.prices as usize;
@@ -58,6 +65,9 @@ fn lend(prices: &[u32], imbalance: &[i32], dm: &[i32], r: Row, l: Lengths) -> bo
 fn asked(prices: &[u32], imbalance: &[i32], dm: &[i32], r: Row, l: Lengths) -> bool {
     if r.call == b'O' {
         return offered(r);
+    }
+    if r.call == b'D' {
+        return begun(r);
     }
     if (r.call == b'Q') | (r.call == b'R') {
         return lend(prices, imbalance, dm, r, l);

@@ -10,8 +10,9 @@ use Rattle.rules.specs.DayFile.{wordsOf, items, fileNames}
 use Rattle.rules.specs.Calls.{file, causeOf, wordsAfter}
 use Rattle.dayfile.proofs.AnswerLaws.{file-bytes}
 use Rattle.rules.proofs.CallLaws.{file-passes}
+use Rattle.text.specs.Text.{eachFrom}
 use Rattle.text.proofs.TextLaws.{decimal-below, decimal-most, signed-most}
-use Rattle.report.specs.Report.{header, refusal, lineText, lineOf, eachFrom, partyLines, allLines, reportInto, reportOn, mostText}
+use Rattle.report.specs.Report.{header, refusal, lineText, lineOf, partyLines, allLines, reportInto, reportOn, mostText}
 use Rattle.report.proofs.PairLaws.{sumFrom, from-times, pairs, named}
 
 -- a line: three digits of a party, five of a day, twenty-one bytes of a balance, and what stands after each

@@ -1,5 +1,5 @@
--- Laws of the report: the texts of numbers one after the other, and those that are empty. Assumes nothing.
-use mathlib.Core.Path.{_≡_, refl, sym, _∙_, ap, ap₂}
+-- Laws of the report: its lines by what the file names, and its balances. Assumes nothing.
+use mathlib.Core.Path.{_≡_, refl, sym, _∙_, ap}
 use mathlib.Core.Bool.{Bool, true, false, cond}
 use mathlib.Core.List.{List, [], _∷_, _++_}
 use Prim.Native.Nat.{ℕ, zero, suc, _+_, _-_, _≤_, _<_}
@@ -7,7 +7,6 @@ use native.Mathlib.Numerals.{add-one}
 use native.Mathlib.Omega.{arith}
 use lib.IntN.{ℤ}
 use lib.ListN.{getD}
-use lib.Seq.{length-take-le}
 use borrow.Author.Tests.{le-leb}
 use Rattle.numbers.specs.Causes.{ifDone}
 use Rattle.numbers.proofs.CauseLaws.{done-else}
@@ -22,30 +21,10 @@ use Rattle.rules.specs.Balance.{Volume, balanceOf, balanceAnswer, partyDayCause
 use Rattle.rules.specs.declared.TallyAnswer.{TallyAnswer}
 use Rattle.tally.specs.Scan.{scanned}
 use Rattle.position.proofs.AnswerLaws.{no-cause, balance-done}
-use Rattle.io.specs.Counts.{Counts}
-use Rattle.text.specs.Text.{Wrote}
-use Rattle.text.proofs.TextLaws.{wrote-within}
+use Rattle.text.specs.Text.{eachFrom}
+use Rattle.text.proofs.TextLaws.{each-same, each-none}
 use Rattle.report.specs.Asked.{Asked}
-use Rattle.report.specs.Report.{eachFrom, partyLines, allLines, lineOf, header, refusal, reportInto}
-
--- the text of one number more, up to an end
-pub each-step : (f : ℕ → List ℕ) (end k : ℕ) → k < end → eachFrom f (end - k) k ≡ f k ++ eachFrom f (end - (k + 1)) (k + 1)
-unfolding eachFrom
-each-step f end k h = let e : end - k ≡ suc (end - (k + 1)) = omega arith in rw e
-
-pub each-end : (f : ℕ → List ℕ) (end k : ℕ) → end ≤ k → eachFrom f (end - k) k ≡ []
-unfolding eachFrom
-each-end f end k h = let e : end - k ≡ 0 = omega arith in rw e
-
-pub each-same : (f g : ℕ → List ℕ) (n k : ℕ) → ((i : ℕ) → i < k + n → f i ≡ g i) → eachFrom f n k ≡ eachFrom g n k
-unfolding eachFrom
-each-same f g zero k h = refl
-each-same f g (suc n) k h = ap₂ _++_ (h k (omega arith)) (each-same f g n (k + 1) (λ i l. h i (omega arith)))
-
-each-none : (f : ℕ → List ℕ) (n k : ℕ) → ((i : ℕ) → f i ≡ []) → eachFrom f n k ≡ []
-unfolding eachFrom
-each-none f zero k h = refl
-each-none f (suc n) k h = rw (h k) (each-none f n (k + 1) h)
+use Rattle.report.specs.Report.{partyLines, allLines, lineOf, header, refusal, reportInto}
 
 -- a party that the file does not name has no line
 pub no-lines : (bs ws : List ℕ) (p : ℕ) → namesParty bs p ≡ false → partyLines bs ws p ≡ []
@@ -81,7 +60,3 @@ asked-cause {ws} {p} {d} a = no-cause ws p d (a .is-book) (rw (le-leb 1 p (a .pa
 pub asked-balance : {ws : List ℕ} {p d : ℕ} → Asked ws p d → (v : Volume) {s : TallyAnswer} {R TM : ℕ} {z : ℤ} → s ≡ scanned p d (entries ws) → R ≡ coefficientOf ws → TM ≡ toleranceOf ws →
     z ≡ balanceOf v R TM (s .tally) (s .bought) → z ≡ balanceAnswer v ws p d .balance
 asked-balance {ws} {p} {d} a v f g h e = ap (λ b. b .balance) (balance-done ws p d (asked-cause a) v refl f g h e)
-
--- the place after a text counts bytes of the slice
-pub wrote-counts : {out : List ℕ} {at : ℕ} {s : List ℕ} {next : ℕ} {left : List ℕ} → Wrote out at s next left → Counts next left
-wrote-counts {next = next} {left} w = (wrote-within w, sym (length-take-le next left (wrote-within w)))

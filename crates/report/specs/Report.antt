@@ -1,7 +1,7 @@
 -- The report on a day file: a header and a line for each party and day named, or a refusal (01, 'Day file').
 use mathlib.Core.Bool.{Bool, cond}
 use mathlib.Core.List.{List, [], _∷_, _++_}
-use Prim.Native.Nat.{ℕ, zero, suc, _+_}
+use Prim.Native.Nat.{ℕ}
 use lib.IntN.{ℤ}
 use lib.ListN.{replicate}
 use Rattle.rules.specs.Words.{bookWords}
@@ -12,7 +12,7 @@ use Rattle.rules.specs.Book.{openDefaultWords}
 use Rattle.rules.specs.Balance.{balanceAnswer, dayAhead, delivery}
 use Rattle.rules.specs.DayFile.{fileNames}
 use Rattle.rules.specs.Calls.{file, causeOf, wordsAfter}
-use Rattle.text.specs.Text.{decimal, signed}
+use Rattle.text.specs.Text.{decimal, signed, eachFrom}
 
 -- party day ahead delivery
 abbrev pub header : List ℕ
@@ -30,11 +30,6 @@ lineText p d ahead due =
 
 unfoldable pub lineOf : List ℕ → ℕ → ℕ → List ℕ
 lineOf ws p d = lineText p d (balanceAnswer dayAhead ws p d .balance) (balanceAnswer delivery ws p d .balance)
-
--- the texts of n numbers from k on
-unfoldable pub eachFrom : (ℕ → List ℕ) → ℕ → ℕ → List ℕ
-eachFrom text zero k = []
-eachFrom text (suc n) k = text k ++ eachFrom text n (k + 1)
 
 -- the days 0 to 36,524 of a party, and the parties 1 to 999
 unfoldable pub partyLines : List ℕ → List ℕ → ℕ → List ℕ

@@ -8,9 +8,9 @@ ghost use Rattle.rules.specs.Entry.{lastParty, dayPlaces, partyPlaces};
 ghost use Rattle.rules.specs.Words.{isBook};
 ghost use Rattle.rules.specs.Book.{openDefaultWords};
 ghost use Rattle.file_names.specs.Names.{namesParty};
-ghost use Rattle.text.specs.Text.{Wrote, Whole};
+ghost use Rattle.text.specs.Text.{eachFrom, Wrote, Whole};
 ghost use Rattle.report.specs.Asked.{Asked};
-ghost use Rattle.report.specs.Report.{header, refusal, lineText, lineOf, eachFrom, partyLines, allLines, reportInto, reportOn, mostText};
+ghost use Rattle.report.specs.Report.{header, refusal, lineText, lineOf, partyLines, allLines, reportInto, reportOn, mostText};
 use rules::bounds::DAYS;
 use rules::bounds::NUMBERS;
 use rules::layout::BOOK_WORDS;
@@ -25,8 +25,8 @@ fn put_line(out: &mut [u8], at: usize, party: u32, day: u32, ahead: i64, due: i6
     requires { ⌜ at ≤ length (now out) ⌝ }
     ensures { λ r. ⌜ Wrote (now (out .entry)) at (lineText party day ahead due) r (now (out .exit)) ⌝ }
 {
-    let first = text::put_number(out, at, party);
-    let second = text::put_number(out, first, day);
+    let first = text::put_number(out, at, party as u64, b' ');
+    let second = text::put_number(out, first, day as u64, b' ');
     let third = text::put_balance(out, second, ahead, b' ');
     text::put_balance(out, third, due, b'\n')
 }

@@ -10,6 +10,7 @@ pub mod CaseFigures
 pub mod Control
 pub mod DayFile
 pub mod Ceiling
+pub mod FirstDay
 pub mod Machine
 pub mod Calls
 pub mod Ledger

@@ -40,5 +40,8 @@ pub const MOST_IMBALANCE: u64 = 10000000;
 // A figure of the sales ceiling (01, 'Sales ceiling').
 pub const MOST_OFFER: u32 = 1000000000;
 
+// The months of the years 2000 to 2399, whose first days are told (02, T-08).
+pub const HORIZON_MONTHS: u32 = 4800;
+
 // A day file (01, 'Day file').
 pub const MOST_FILE_BYTES: usize = 65536;

@@ -94,6 +94,13 @@ pub struct CeilingAnswer {
     pub recordable: u32,
 }
 
+// The first day of a month (02, T-08).
+#[repr(C)]
+pub struct FirstDayAnswer {
+    pub answer: u32,
+    pub day: u32,
+}
+
 // The parties detected in each pass of a control, and the entries it cancelled.
 #[repr(C)]
 pub struct Controlled {

@@ -1,19 +1,19 @@
 -- Laws of numbers as text, and of text laid over lent bytes. Assumes nothing.
-use mathlib.Core.Path.{_≡_, refl, sym, _∙_, ap}
+use mathlib.Core.Path.{_≡_, refl, sym, _∙_, ap, ap₂}
 use mathlib.Core.Bool.{Bool, true, false, cond, true≢false}
 use mathlib.Core.List.{List, [], _∷_, _++_}
 use mathlib.Core.Logic.{inl, inr}
 use Prim.Native.Nat.{ℕ, zero, suc, _+_, _-_, _*_, _/_, _%_, _^_, min, _≤_, _<_, zero-le}
-use native.Mathlib.Nat.{add-zero, pow-suc}
+use native.Mathlib.Nat.{add-zero, suc-mul, pow-suc}
 use native.Mathlib.Numerals.{add-one}
 use native.Mathlib.Omega.{arith}
 use lib.IntN.{ℤ, pos, negsuc, natAbs}
-use lib.ListN.{length, getD, drop, set, length-append, length-set}
-use lib.Seq.{set-out, drop-cons, take-at, drop-at}
+use lib.ListN.{length, getD, take, drop, set, length-append, length-set}
+use lib.Seq.{set-out, drop-cons, take-at, drop-at, length-take-le}
 use borrow.Author.Tests.{ltb-true, lt-ltb, le-ltb}
 use Rattle.numbers.specs.Signed.{isNegative}
 use Rattle.numbers.proofs.TestLaws.{below-or-above}
-use Rattle.text.specs.Text.{digits, decimal, signed, over, Wrote, Whole}
+use Rattle.text.specs.Text.{digits, decimal, signed, eachFrom, over, Wrote, Whole}
 
 -- text after text
 pub over-append : (s t out : List ℕ) (at : ℕ) → over out at (s ++ t) ≡ over (over out at s) (at + length s) t
@@ -200,3 +200,34 @@ wrote-whole {out} {s} w h =
       bytes = rw (e, w .bytes, over-start s out h) (take-at s (drop (length s) out) (length s) refl);
       past = rw (e, w .bytes, over-start s out h) (drop-at s (drop (length s) out) (length s) refl);
     }
+
+-- the text of one number more, up to an end
+pub each-step : (f : ℕ → List ℕ) (end k : ℕ) → k < end → eachFrom f (end - k) k ≡ f k ++ eachFrom f (end - (k + 1)) (k + 1)
+unfolding eachFrom
+each-step f end k h = let e : end - k ≡ suc (end - (k + 1)) = omega arith in rw e
+
+pub each-end : (f : ℕ → List ℕ) (end k : ℕ) → end ≤ k → eachFrom f (end - k) k ≡ []
+unfolding eachFrom
+each-end f end k h = let e : end - k ≡ 0 = omega arith in rw e
+
+pub each-same : (f g : ℕ → List ℕ) (n k : ℕ) → ((i : ℕ) → i < k + n → f i ≡ g i) → eachFrom f n k ≡ eachFrom g n k
+unfolding eachFrom
+each-same f g zero k h = refl
+each-same f g (suc n) k h = ap₂ _++_ (h k (omega arith)) (each-same f g n (k + 1) (λ i l. h i (omega arith)))
+
+pub each-none : (f : ℕ → List ℕ) (n k : ℕ) → ((i : ℕ) → f i ≡ []) → eachFrom f n k ≡ []
+unfolding eachFrom
+each-none f zero k h = refl
+each-none f (suc n) k h = rw (h k) (each-none f n (k + 1) h)
+
+-- each text within a length
+pub each-most : (f : ℕ → List ℕ) (most n k : ℕ) → ((i : ℕ) → i < k + n → length (f i) ≤ most) → length (eachFrom f n k) ≤ n * most
+unfolding eachFrom
+each-most f most zero k h = zero-le
+each-most f most (suc n) k h =
+    rw (length-append (f k) (eachFrom f n (k + 1)), suc-mul n most)
+    (omega (arith, h k (omega arith), each-most f most n (k + 1) (λ i l. h i (omega arith))))
+
+-- the place after a text counts bytes of the slice
+pub wrote-counts : {out : List ℕ} {at : ℕ} {s : List ℕ} {next : ℕ} {left : List ℕ} → Wrote out at s next left → (next ≤ length left) × (next ≡ length (take next left))
+wrote-counts {next = next} {left} w = (wrote-within w, sym (length-take-le next left (wrote-within w)))

@@ -21,6 +21,11 @@ unfoldable pub signed : ℤ → List ℕ
 signed (pos n) = decimal n
 signed (negsuc n) = 45 ∷ decimal (suc n)
 
+-- the texts of n numbers from k on
+unfoldable pub eachFrom : (ℕ → List ℕ) → ℕ → ℕ → List ℕ
+eachFrom text zero k = []
+eachFrom text (suc n) k = text k ++ eachFrom text n (k + 1)
+
 -- bytes laid over a lent slice, from a place on; what is past its end is left out
 unfoldable pub over : List ℕ → ℕ → List ℕ → List ℕ
 over out at [] = out

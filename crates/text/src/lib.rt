@@ -60,12 +60,12 @@ fn put_signed(out: &mut [u8], at: usize, x: i64) -> usize
 }
 
 // A number, and what follows it.
-pub fn put_number(out: &mut [u8], at: usize, x: u32) -> usize
+pub fn put_number(out: &mut [u8], at: usize, x: u64, end: u8) -> usize
     requires { ⌜ at ≤ length (now out) ⌝ }
-    ensures { λ r. ⌜ Wrote (now (out .entry)) at (decimal x ++ (32 ∷ [])) r (now (out .exit)) ⌝ }
+    ensures { λ r. ⌜ Wrote (now (out .entry)) at (decimal x ++ (end ∷ [])) r (now (out .exit)) ⌝ }
 {
-    let next = put_decimal(out, at, x as u64);
-    put(out, next, b' ')
+    let next = put_decimal(out, at, x);
+    put(out, next, end)
 }
 
 pub fn put_balance(out: &mut [u8], at: usize, x: i64, end: u8) -> usize

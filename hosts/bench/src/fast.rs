@@ -534,3 +534,16 @@ pub fn ceiling(o: u32, n: u32, v: u32, g: u32) -> (u32, u32) {
     let (o, n, v, g) = (o as u64, n as u64, v as u64, g as u64);
     (0, (2 * o <= 50_000.max(3 * (n + v)) + 2 * g) as u32)
 }
+
+// the days of the years before, and of the year's months before in a table
+#[inline(never)]
+pub fn first_day(month: u32) -> (u32, u32) {
+    const BEFORE: [u32; 12] = [0, 31, 59, 90, 120, 151, 181, 212, 243, 273, 304, 334];
+    if month >= 4_800 {
+        return (12, 0);
+    }
+    let (year, of_year) = (month / 12, (month % 12) as usize);
+    let leap = year % 4 == 0 && (year % 100 != 0 || year % 400 == 0);
+    let leap_days = year.div_ceil(4) - year.div_ceil(100) + year.div_ceil(400);
+    (0, 365 * year + leap_days + BEFORE[of_year] + u32::from(leap && of_year > 1))
+}

@@ -51,6 +51,7 @@ extern "C" {
     fn fanzsoreb_read_file(b: *mut u8, n: usize, f: *const u8, m: usize) -> Two;
     fn fanzsoreb_month(p: *const u8, pn: usize, i: *const u8, n: usize, rows: u32, d: *const u8, dn: usize, group: u32) -> Month;
     fn fanzsoreb_ceiling(o: u32, n: u32, v: u32, g: u32) -> Two;
+    fn fanzsoreb_first_day(month: u32) -> Two;
 }
 
 const RUNS: usize = 400;
@@ -194,6 +195,8 @@ fn main() {
     }
     let offers: Vec<u32> = (0..1000).map(|_| d.next(1_000_000_000) as u32).collect();
     compare!(table, "1,000 sales ceilings", 0, || (), |_| offers.iter().map(|&o| unsafe { fanzsoreb_ceiling(o, o / 2, o / 3, o / 5) }.1).sum::<u32>(), |_| offers.iter().map(|&o| fast::ceiling(o, o / 2, o / 3, o / 5).1).sum::<u32>());
+    let months: Vec<u32> = (0..1000).map(|_| d.next(4_800) as u32).collect();
+    compare!(table, "1,000 first days", 0, || (), |_| months.iter().map(|&m| unsafe { fanzsoreb_first_day(m) }.1).sum::<u32>(), |_| months.iter().map(|&m| fast::first_day(m).1).sum::<u32>());
     ratios(&table);
     growth(&table);
 }

@@ -3,12 +3,12 @@
 use crate::engine::{words, Post};
 use second::{
     BalanceAnswer, Case, CeilingAnswer, Collateral, Controlled, Counted, EntryRead, FileRead,
-    MonthAnswer, Posted, TallyAnswer,
+    FirstDayAnswer, MonthAnswer, Posted, TallyAnswer,
 };
 use std::fmt::Write;
 
 /// Every call that is compared by itself.
-pub const NAMES: [&str; 16] = [
+pub const NAMES: [&str; 17] = [
     "is_book",
     "open",
     "open_default",
@@ -21,6 +21,7 @@ pub const NAMES: [&str; 16] = [
     "delivery",
     "detected",
     "ceiling",
+    "first_day",
     "month",
     "collateral",
     "control",
@@ -41,6 +42,7 @@ pub enum Call {
     Delivery { party: u32, day: u32 },
     Detected { balance: i64 },
     Ceiling { offer: u32, bilateral: u32, futures: u32, capacity: u32 },
+    FirstDay { month: u32 },
     Month { prices: Vec<u8>, imbalance: Vec<u8>, rows: u32, dm: Vec<u8>, group: u32 },
     Collateral(Case),
     Control { day: u32 },
@@ -59,6 +61,7 @@ pub enum Answer {
     Tally(TallyAnswer),
     Balance(BalanceAnswer),
     Ceiling(CeilingAnswer),
+    FirstDay(FirstDayAnswer),
     Month(MonthAnswer),
     Collateral(Collateral),
     Controlled(Controlled),
@@ -77,6 +80,7 @@ impl Answer {
             Answer::Tally(a) => a.answer,
             Answer::Balance(a) => a.answer,
             Answer::Ceiling(a) => a.answer,
+            Answer::FirstDay(a) => a.answer,
             Answer::Month(a) => a.answer,
             Answer::Collateral(a) => a.answer,
             Answer::Controlled(a) => a.answer,
@@ -124,6 +128,7 @@ impl Call {
             Call::Delivery { .. } => "delivery",
             Call::Detected { .. } => "detected",
             Call::Ceiling { .. } => "ceiling",
+            Call::FirstDay { .. } => "first_day",
             Call::Month { .. } => "month",
             Call::Collateral(_) => "collateral",
             Call::Control { .. } => "control",

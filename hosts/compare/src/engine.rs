@@ -7,7 +7,7 @@
 
 use second::{
     BalanceAnswer, Case, CeilingAnswer, Collateral, Controlled, Counted, EntryRead, FileRead,
-    MonthAnswer, Posted, TallyAnswer,
+    FirstDayAnswer, MonthAnswer, Posted, TallyAnswer,
 };
 
 /// The tables of a month step, as bytes.
@@ -43,6 +43,7 @@ pub trait Engine {
     fn delivery(&self, book: &[u8], party: u32, day: u32) -> BalanceAnswer;
     fn detected(&self, balance: i64) -> u32;
     fn ceiling(&self, offer: u32, bilateral: u32, futures: u32, capacity: u32) -> CeilingAnswer;
+    fn first_day(&self, month: u32) -> FirstDayAnswer;
     fn month(&self, tables: Tables) -> MonthAnswer;
     fn collateral(&self, book: &[u8], case: &Case) -> Collateral;
     fn control(&self, book: &mut [u8], day: u32) -> Controlled;
@@ -155,6 +156,10 @@ impl Engine for Second {
         second::ceiling(offer, bilateral, futures, capacity)
     }
 
+    fn first_day(&self, month: u32) -> FirstDayAnswer {
+        second::first_day(month)
+    }
+
     fn month(&self, t: Tables) -> MonthAnswer {
         match (words(t.prices), signed(t.imbalance), signed(t.dm)) {
             (Some(prices), Some(imbalance), Some(dm)) => {
@@ -240,6 +245,12 @@ pub mod linked {
     }
 
     #[repr(C)]
+    struct CFirstDayAnswer {
+        answer: u32,
+        day: u32,
+    }
+
+    #[repr(C)]
     struct CMonth {
         aosmf: u64,
         aedm: i64,
@@ -313,6 +324,7 @@ pub mod linked {
             futures: u32,
             capacity: u32,
         ) -> CCeilingAnswer;
+        fn fanzsoreb_first_day(month: u32) -> CFirstDayAnswer;
         fn fanzsoreb_month(
             prices: *const u8,
             prices_length: usize,
@@ -458,6 +470,11 @@ pub mod linked {
         ) -> CeilingAnswer {
             let c = unsafe { fanzsoreb_ceiling(offer, bilateral, futures, capacity) };
             CeilingAnswer { answer: c.answer, recordable: c.recordable }
+        }
+
+        fn first_day(&self, month: u32) -> FirstDayAnswer {
+            let c = unsafe { fanzsoreb_first_day(month) };
+            FirstDayAnswer { answer: c.answer, day: c.day }
         }
 
         fn month(&self, t: Tables) -> MonthAnswer {

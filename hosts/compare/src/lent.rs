@@ -27,6 +27,7 @@ fn run(engine: &impl Engine, call: &Call, lent: &mut Lent) -> Answer {
         Call::Ceiling { offer, bilateral, futures, capacity } => {
             Answer::Ceiling(engine.ceiling(*offer, *bilateral, *futures, *capacity))
         }
+        Call::FirstDay { month } => Answer::FirstDay(engine.first_day(*month)),
         Call::Month { rows, group, .. } => Answer::Month(engine.month(Tables {
             prices: lent.file.bytes(),
             imbalance: lent.imbalance.bytes(),
@@ -59,6 +60,7 @@ fn expected(call: &Call, model: &mut [u8]) -> Answer {
         Call::Ceiling { offer, bilateral, futures, capacity } => {
             Answer::Ceiling(Second.ceiling(*offer, *bilateral, *futures, *capacity))
         }
+        Call::FirstDay { month } => Answer::FirstDay(Second.first_day(*month)),
         Call::Month { prices, imbalance, rows, dm, group } => Answer::Month(Second.month(Tables {
             prices,
             imbalance,

@@ -42,6 +42,10 @@ pub fn met(call: &Call, answer: &Answer) -> Vec<&'static str> {
             when(a.recordable == 1, "recordable");
             when(a.recordable == 0, "not recordable");
         }
+        (_, Answer::FirstDay(a)) => {
+            when(a.day <= second::LAST_DAY, "a day of the table");
+            when(a.day > second::LAST_DAY, "a later day");
+        }
         (Call::Month { prices, imbalance, .. }, Answer::Month(a)) => {
             when(prices.is_empty(), "no hours");
             when(a.aedm < 0, "short");

@@ -11,7 +11,7 @@ use crate::worked::figures;
 use second::calendar::period_of;
 use second::{
     BalanceAnswer, Book, Case, CeilingAnswer, Collateral, Controlled, Counted, Entry, EntryRead,
-    FileRead, MonthAnswer, Posted, TallyAnswer,
+    FileRead, FirstDayAnswer, MonthAnswer, Posted, TallyAnswer,
 };
 use std::collections::{BTreeMap, BTreeSet};
 
@@ -33,14 +33,14 @@ fn no_difference_where_there_is_none() {
     let counts = lists(&Second, &quiet(10_000));
     assert_eq!(counts.values().map(|c| c.failed).sum::<u64>(), 0);
     assert!(counts.values().map(|c| c.compared).sum::<u64>() >= 10_000);
-    assert!(counts.len() >= 14);
+    assert!(counts.len() >= 15);
 }
 
 /// The worked figures hold for the second calculation, and show these slips.
 #[test]
 fn worked_figures() {
     let worked = figures(&Second);
-    assert_eq!((worked.compared, worked.failed), (88, 0));
+    assert_eq!((worked.compared, worked.failed), (105, 0));
     for slip in [
         "open_default: the old coefficient",
         "open_default: the old tolerance",
@@ -49,6 +49,9 @@ fn worked_figures() {
         "detected: zero too",
         "month: halves down",
         "ceiling: below only",
+        "first_day: 2100 is a leap year",
+        "first_day: 2000 is no leap year",
+        "first_day: a year begins in December",
         "collateral: a day's debt may be negative",
         "control: a lost purchase inside the first pass",
     ] {
@@ -65,7 +68,7 @@ fn rounds_are_repeatable() {
         }
         let one = crate::draw::round(&mut Rng::of_round(3, name, 0), name);
         let other = crate::draw::round(&mut Rng::of_round(4, name, 0), name);
-        assert!(one != other || matches!(name, "detected" | "ceiling"), "{name}");
+        assert!(one != other || matches!(name, "detected" | "ceiling" | "first_day"), "{name}");
     }
 }
 
@@ -83,6 +86,7 @@ fn every_cause_is_reached() {
         ("day_ahead", &[1, 3, 4]),
         ("delivery", &[1, 3, 4]),
         ("ceiling", &[12]),
+        ("first_day", &[12]),
         ("month", &[11, 12]),
         ("collateral", &[1, 3, 4, 12]),
         ("control", &[1, 4, 8, 9]),
@@ -387,6 +391,29 @@ impl Engine for Wrong {
             _ => right.recordable == 1,
         };
         CeilingAnswer { answer: 0, recordable: u32::from(recordable) }
+    }
+
+    fn first_day(&self, month: u32) -> FirstDayAnswer {
+        let right = Second.first_day(month);
+        if self.slips("first_day: the table's months only") && month > 1_200 {
+            return FirstDayAnswer { answer: 12, day: 0 };
+        }
+        if self.slips("first_day: a month more") && month == 4_800 {
+            return FirstDayAnswer { answer: 0, day: 146_097 };
+        }
+        if self.slips("first_day: refused as a day") && right.answer != 0 {
+            return FirstDayAnswer { answer: 4, day: 0 };
+        }
+        if right.answer != 0 {
+            return right;
+        }
+        let day = match self.0 {
+            "first_day: 2100 is a leap year" => right.day + u32::from(month >= 1_202),
+            "first_day: 2000 is no leap year" => right.day - u32::from(month >= 2),
+            "first_day: a year begins in December" if month % 12 == 11 => right.day + 31,
+            _ => right.day,
+        };
+        FirstDayAnswer { answer: 0, day }
     }
 
     fn month(&self, t: Tables) -> MonthAnswer {
@@ -743,7 +770,7 @@ impl Wrong {
     }
 }
 
-const SLIPS: [&str; 75] = [
+const SLIPS: [&str; 81] = [
     "is_book: status 3 is allowed",
     "is_book: a cancelled export is allowed",
     "is_book: more than 3,072 entries are allowed",
@@ -781,6 +808,12 @@ const SLIPS: [&str; 75] = [
     "ceiling: below only",
     "ceiling: halves lost",
     "ceiling: 32 bits",
+    "first_day: the table's months only",
+    "first_day: a month more",
+    "first_day: refused as a day",
+    "first_day: 2100 is a leap year",
+    "first_day: 2000 is no leap year",
+    "first_day: a year begins in December",
     "month: rows × hours wraps",
     "month: prices without weights",
     "month: halves down",
@@ -910,6 +943,7 @@ impl Engine for Stray {
         delivery(book: &[u8], party: u32, day: u32) -> BalanceAnswer;
         detected(balance: i64) -> u32;
         ceiling(offer: u32, bilateral: u32, futures: u32, capacity: u32) -> CeilingAnswer;
+        first_day(month: u32) -> FirstDayAnswer;
         month(tables: Tables) -> MonthAnswer;
         collateral(book: &[u8], case: &Case) -> Collateral;
         control(book: &mut [u8], day: u32) -> Controlled;

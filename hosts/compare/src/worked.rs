@@ -3,7 +3,7 @@
 //! names no tolerance, R is 110 and TM 600,000, named at opening (02, T-12).
 
 use crate::engine::{bytes, Engine, Post, Tables};
-use second::{Case, Collateral, Controlled, FileRead, Month};
+use second::{Case, Collateral, Controlled, FileRead, FirstDayAnswer, Month};
 use std::fmt::Debug;
 
 /// What was held against the paper, and how much of it differs.
@@ -22,6 +22,7 @@ pub fn figures<E: Engine>(engine: &E) -> Worked<'_, E> {
     worked.months();
     worked.items();
     worked.ceilings();
+    worked.first_days();
     worked.sample();
     worked.calendar();
     worked
@@ -155,6 +156,35 @@ impl<E: Engine> Worked<'_, E> {
             let answer = self.engine.ceiling(offer, 16_000, 666, 1_000);
             self.holds("an offer recordable", (answer.answer, answer.recordable), (0, recordable));
         }
+    }
+
+    /// 02, T-08: 2000 to 2099 have 36,525 days, the centuries after them 36,524 each.
+    fn first_days(&mut self) {
+        for (month, day) in [
+            (0, 0),
+            (1, 31),
+            (2, 60),
+            (11, 335),
+            (12, 366),
+            (1_200, 36_525),
+            (1_202, 36_584),
+            (1_211, 36_859),
+            (1_212, 36_890),
+            (1_250, 38_045),
+            (2_402, 73_108),
+            (3_602, 109_632),
+            (4_799, 146_066),
+        ] {
+            let stated = FirstDayAnswer { answer: 0, day };
+            self.holds("the first day of a month", self.engine.first_day(month), stated);
+        }
+        let refused = FirstDayAnswer { answer: 12, day: 0 };
+        for month in [4_800, u32::MAX] {
+            self.holds("a month past 2399", self.engine.first_day(month), refused);
+        }
+        // the day limit does not grow: 36,525 is the first day of January 2100, and no day of a book
+        let book = self.book(&[]);
+        self.holds("day 36,525", self.engine.day_ahead(&book, 1, 36_525).answer, 4);
     }
 
     fn sample(&mut self) {

@@ -58,6 +58,13 @@ pub struct CeilingAnswer {
     pub recordable: u32,
 }
 
+/// The first day of a month.
+#[derive(Clone, Copy, Debug, PartialEq, Eq, Default)]
+pub struct FirstDayAnswer {
+    pub answer: u32,
+    pub day: u32,
+}
+
 /// A control: parties detected in each pass, and entries cancelled.
 #[derive(Clone, Copy, Debug, PartialEq, Eq, Default)]
 pub struct Controlled {

@@ -1,5 +1,10 @@
 //! The Gregorian calendar from 2000-01-01 (day 0) on, by walking, not by table.
 
+use crate::answers::FirstDayAnswer;
+
+/// The last year whose months' first days are told (document 02, T-08).
+pub const LAST_YEAR: u32 = 2399;
+
 /// Whether a year has a 29 February.
 pub fn is_leap(year: u32) -> bool {
     if year % 400 == 0 {
@@ -57,8 +62,8 @@ pub fn period_of(day: u32) -> (u32, u32) {
     (year, month)
 }
 
-/// The number of the first day of a month.
-pub fn first_day(year: u32, month: u32) -> u32 {
+/// The number of the first day of a month, 1 to 12, of a year.
+pub fn begin_of(year: u32, month: u32) -> u32 {
     let mut day = 0;
     for earlier in 2000..year {
         day += days_of_year(earlier);
@@ -67,4 +72,13 @@ pub fn first_day(year: u32, month: u32) -> u32 {
         day += days_of_month(year, earlier);
     }
     day
+}
+
+/// The first day of a month counted from January 2000, to the end of the last year.
+pub fn first_day(month: u32) -> FirstDayAnswer {
+    let (year, month) = (2000 + month / 12, 1 + month % 12);
+    if year > LAST_YEAR {
+        return FirstDayAnswer { answer: 12, day: 0 };
+    }
+    FirstDayAnswer { answer: 0, day: begin_of(year, month) }
 }

@@ -1,6 +1,6 @@
 //! A second calculation of the balance book and the collateral drawn from it.
 //!
-//! It is written from document 01 alone and shares nothing with the engine, so
+//! It is written from documents 01 and 02 alone and shares nothing with the engine, so
 //! that the two can be compared. It is meant to be read beside that paper:
 //! a book is decoded into a list of entries, the list is worked on with plain
 //! loops, maps and wide numbers, and what changed is encoded again.
@@ -20,7 +20,7 @@ mod month;
 
 pub use answers::{
     BalanceAnswer, Case, CeilingAnswer, Collateral, Controlled, Counted, EntryRead, FileRead,
-    Month, MonthAnswer, Posted, TallyAnswer,
+    FirstDayAnswer, Month, MonthAnswer, Posted, TallyAnswer,
 };
 pub use balance::{day_ahead, delivery, detected, tally};
 pub use book::{
@@ -29,6 +29,7 @@ pub use book::{
     LAST_TYPE, LAST_VOLUME_TYPE, MARK, MOST_COEFFICIENT, MOST_ENTRIES, MOST_MONEY, MOST_TOLERANCE,
     MOST_VOLUME, STANDING, WITHDRAWN,
 };
+pub use calendar::first_day;
 pub use ceiling::ceiling;
 pub use collateral::collateral;
 pub use control::control;

@@ -1008,3 +1008,38 @@ fn ceiling_edges() {
     assert_eq!(answer(0, 0, most + 1, 0), (12, 0));
     assert_eq!(answer(0, 0, 0, u32::MAX), (12, 0));
 }
+
+// The first day of a month
+
+/// Document 02, T-08. A century from 2100 on has 100 × 365 + 24 = 36,524 days.
+#[test]
+fn first_days() {
+    for (month, day) in [
+        (0, 0),
+        (2, 60),
+        (12, 366),
+        (1_199, 36_494),
+        (1_200, 36_525),
+        (1_202, 36_584), // March 2100: 31 + 28 days on
+        (1_212, 36_890),
+        (1_250, 38_045), // March 2104: 36,525 + 4 × 365 + 31 + 29
+        (2_400, 73_049),
+        (2_402, 73_108),
+        (3_600, 109_573),
+        (3_602, 109_632),
+        (4_788, 145_732),
+        (4_799, 146_066),
+    ] {
+        assert_eq!(first_day(month), FirstDayAnswer { answer: 0, day }, "{month}");
+    }
+    for month in [4_800, 4_801, 6_000, 65_536, u32::MAX] {
+        assert_eq!(first_day(month), FirstDayAnswer { answer: 12, day: 0 }, "{month}");
+    }
+    // Each month begins where the one before ends, to the end of 2399.
+    let mut day = 0;
+    for month in 0..4_800 {
+        assert_eq!(first_day(month).day, day, "{month}");
+        day += calendar::days_of_month(2000 + month / 12, 1 + month % 12);
+    }
+    assert_eq!(day, 146_097);
+}

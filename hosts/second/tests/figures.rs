@@ -182,7 +182,7 @@ fn calendar() {
     let mut months = 0;
     for year in 2000..=2099 {
         for month in 1..=12 {
-            assert_eq!(second::calendar::first_day(year, month), day);
+            assert_eq!(second::calendar::begin_of(year, month), day);
             for of_month in 1..=second::calendar::days_of_month(year, month) {
                 assert_eq!(second::calendar::date_of(day), (year, month, of_month));
                 day += 1;

@@ -4,9 +4,9 @@ use mathlib.Core.List.{[]}
 use Prim.Native.Nat.{_≤_, _-_, zero-le}
 use native.Mathlib.Omega.{arith}
 use lib.ListN.{getD}
-use Rattle.report.specs.Report.{eachFrom, lineOf}
-use Rattle.text.proofs.TextLaws.{Left, left-start, left-step, left-end}
-use Rattle.report.proofs.ReportLaws.{each-step, each-end}
+use Rattle.text.specs.Text.{eachFrom}
+use Rattle.text.proofs.TextLaws.{Left, left-start, left-step, left-end, each-step, each-end}
+use Rattle.report.specs.Report.{lineOf}
 use borrow.Author.Needs.{needs}
 use Rattle.report.proofs.put_days.Statement.{statement}
 use Rattle.report.proofs.put_days.Tie as tie

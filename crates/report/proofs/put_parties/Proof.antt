@@ -1,9 +1,9 @@
 -- `report::put_parties` meets its contract. The loop's invariant: what is left to write is the lines from the party on. Assumes nothing.
 use Prim.Native.Nat.{_≤_, _-_}
 use native.Mathlib.Omega.{arith}
-use Rattle.report.specs.Report.{eachFrom, partyLines, allLines}
-use Rattle.text.proofs.TextLaws.{Left, left-start, left-step, left-end}
-use Rattle.report.proofs.ReportLaws.{each-step, each-end}
+use Rattle.text.specs.Text.{eachFrom}
+use Rattle.text.proofs.TextLaws.{Left, left-start, left-step, left-end, each-step, each-end}
+use Rattle.report.specs.Report.{partyLines, allLines}
 use borrow.Author.Needs.{needs}
 use Rattle.report.proofs.put_parties.Statement.{statement}
 use Rattle.report.proofs.put_parties.Tie as tie

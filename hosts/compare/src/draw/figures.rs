@@ -1,4 +1,4 @@
-//! The figures of the sales ceiling, of month tables and of collateral cases.
+//! The figures of the sales ceiling, of first days, of month tables and of collateral cases.
 
 use super::world::World;
 use super::{legal, odd, odd_wide};
@@ -32,6 +32,25 @@ pub fn ceiling(rng: &mut Rng) -> Call {
     }
     let [offer, bilateral, futures, capacity] = figures;
     Call::Ceiling { offer, bilateral, futures, capacity }
+}
+
+/// A month about the turns of years and centuries, any month of the horizon, and months past it.
+pub fn first_day(rng: &mut Rng) -> Call {
+    const MONTHS: u32 = 4_800;
+    let near = |rng: &mut Rng, turn: u32| (turn + rng.below(30) as u32).saturating_sub(15);
+    let month = match rng.below(6) {
+        0 => odd(rng, MONTHS - 1),
+        1 => {
+            let century = 1_200 * rng.below(5) as u32;
+            near(rng, century)
+        }
+        2 => {
+            let year = 12 * rng.below(401) as u32;
+            near(rng, year)
+        }
+        _ => rng.below(u64::from(MONTHS)) as u32,
+    };
+    Call::FirstDay { month }
 }
 
 /// Tables that agree, and tables that do not.

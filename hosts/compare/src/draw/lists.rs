@@ -100,7 +100,8 @@ pub fn list_call(rng: &mut Rng, world: &World, lent: &[u8]) -> Call {
         985..=988 => "open",
         989 => "open_default",
         990..=993 => "month",
-        994..=996 => "ceiling",
+        994..=995 => "ceiling",
+        996 => "first_day",
         _ => "detected",
     };
     let book = seen(lent);

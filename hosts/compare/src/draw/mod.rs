@@ -15,7 +15,7 @@ pub use lists::{list_call, list_length, list_script, list_start};
 use crate::call::Call;
 use crate::rng::Rng;
 use books::{book, chain, damage, lent, lent_with, seen};
-use figures::{case, ceiling, month};
+use figures::{case, ceiling, first_day, month};
 use files::{file, long_file};
 use second::{Book, LAST_DAY, MOST_COEFFICIENT, MOST_ENTRIES, MOST_TOLERANCE};
 use world::{days_before, some_mark, Taste, World};
@@ -96,7 +96,9 @@ pub fn round(rng: &mut Rng, name: &str) -> (Vec<u8>, Call) {
             let call = if name == "open" { open(rng) } else { Call::OpenDefault };
             return (rubbish(rng), call);
         }
-        "detected" | "ceiling" | "month" => return (Vec::new(), call(rng, name, &world, None)),
+        "detected" | "ceiling" | "first_day" | "month" => {
+            return (Vec::new(), call(rng, name, &world, None))
+        }
         _ => (),
     }
     let (book, day) = if name == "control" && rng.percent(40) {
@@ -184,6 +186,7 @@ pub fn call(rng: &mut Rng, name: &str, world: &World, book: Option<&Book>) -> Ca
             },
         },
         "ceiling" => ceiling(rng),
+        "first_day" => first_day(rng),
         "month" => month(rng),
         "collateral" => {
             // A round of its own has drawn the days before the last one of its world.

@@ -3,7 +3,7 @@
 use super::{odd, odd_wide};
 use crate::engine::Post;
 use crate::rng::Rng;
-use second::calendar::{days_of_month, first_day};
+use second::calendar::{begin_of, days_of_month};
 use second::{
     Book, Entry, BILATERAL_SALE, CANCELLED, LAST_DAY, LAST_PARTY, MOST_COEFFICIENT, MOST_MONEY,
     MOST_TOLERANCE, MOST_VOLUME, STANDING, WITHDRAWN,
@@ -238,7 +238,7 @@ impl World {
 
 pub fn days_about_a_month(rng: &mut Rng) -> Vec<u32> {
     let (year, month) = (rng.between(2000, 2099) as u32, rng.between(1, 12) as u32);
-    let first = first_day(year, month);
+    let first = begin_of(year, month);
     let length = days_of_month(year, month);
     let near = [
         first,

@@ -5,9 +5,8 @@ use native.Mathlib.Nat.{le-trans}
 use native.Mathlib.Omega.{arith}
 use lib.Seq.{length-take-le}
 use Rattle.report.specs.Report.{printed}
-use Rattle.text.proofs.TextLaws.{wrote-whole}
+use Rattle.text.proofs.TextLaws.{wrote-whole, wrote-counts}
 use Rattle.report.proofs.LengthLaws.{refusal-fits}
-use Rattle.report.proofs.ReportLaws.{wrote-counts}
 use borrow.Author.Needs.{needs}
 use Rattle.report.proofs.input.report_from.Statement.{statement}
 use Rattle.report.proofs.input.report_from.Tie as tie
