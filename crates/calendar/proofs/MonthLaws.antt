@@ -8,6 +8,7 @@ use native.Mathlib.Omega.{arith}
 use lib.Dec.{eqb, ltb}
 use borrow.Author.Tests.{ltb-true, ltb-false, le-ltb}
 use Rattle.calendar.specs.Calendar.{months, days, yearOf, monthInYear, isLeap, daysIn, monthLength, monthStart, monthFrom, monthOf, dateOf}
+use Rattle.numbers.specs.Sums.{sum}
 use Rattle.numbers.proofs.TestLaws.{bool-cases}
 
 -- a month has 28 to 31 days
@@ -32,6 +33,12 @@ start-zero = refl
 pub start-step : (n : ℕ) → monthStart (suc n) ≡ monthStart n + monthLength n
 unfolding monthStart
 start-step n = refl
+
+-- the days of all months before
+pub start-sum : (n : ℕ) → monthStart n ≡ sum n monthLength
+unfolding monthStart sum
+start-sum zero = refl
+start-sum (suc n) = ap (λ d. d + monthLength n) (start-sum n)
 
 pub start-mono : (m n : ℕ) → m ≤ n → monthStart m ≤ monthStart n
 start-mono m zero h = le-of-eq (ap monthStart (omega arith))

@@ -8,9 +8,9 @@ use native.Mathlib.Omega.{arith}
 use lib.Dec.{eqb}
 use lib.ListN.{getD}
 use borrow.Author.Tests.{eqb-true, eqb-false, eq-eqb, ne-eqb}
-use Rattle.calendar.specs.Calendar.{months, yearOf, monthInYear, isLeap, leapDays, daysIn, monthLength, monthStart}
+use Rattle.calendar.specs.Calendar.{months, yearOf, isLeap, leapDays, daysIn, monthLength, monthStart}
 use Rattle.numbers.specs.Tests.{allBelow}
-use Rattle.numbers.proofs.TestLaws.{bool-cases, below-or-above, or-false-split, or-cases, allBelow-at}
+use Rattle.numbers.proofs.TestLaws.{bool-cases, below-or-above, or-cases, allBelow-at}
 use Rattle.calendar.proofs.MonthLaws.{start-zero, start-step, start-mono}
 use Rattle.calendar.proofs.MonthTable.{table, table-at}
 

@@ -1,13 +1,13 @@
 -- The table of months as text: how long it is, and that it is the text of the constant table. Assumes nothing.
 use mathlib.Core.Path.{_≡_, refl, sym, ap}
-use mathlib.Core.List.{List, [], _∷_, _++_}
-use Prim.Native.Nat.{ℕ, suc, _≤_, _<_}
+use mathlib.Core.List.{[], _∷_, _++_}
+use Prim.Native.Nat.{ℕ, _≤_}
 use native.Mathlib.Omega.{arith}
 use lib.ListN.{length, getD, length-append}
-use Rattle.calendar.specs.Calendar.{months, monthStart}
+use Rattle.calendar.specs.Calendar.{months, monthStart, monthLength, daysIn, isLeap}
 use Rattle.calendar.proofs.MonthLaws.{start-mono, start-end}
 use Rattle.calendar.proofs.MonthTable.{table, table-at}
-use Rattle.text.specs.Text.{decimal, eachFrom}
+use Rattle.text.specs.Text.{digits, decimal, eachFrom}
 use Rattle.text.proofs.TextLaws.{decimal-below, each-same, each-most}
 use Rattle.month_lines.specs.Lines.{entryLine, tableText}
 
@@ -25,3 +25,12 @@ table-fits = each-most entryLine 6 1201 0 (λ m h. line-most m (omega arith))
 pub text-of-table : tableText ≡ eachFrom (λ k. decimal (getD table k 0) ++ (10 ∷ [])) (length table) 0
 unfolding tableText entryLine table
 text-of-table = each-same _ _ 1201 0 (λ k h. ap (λ d. decimal d ++ (10 ∷ [])) (sym (table-at k (omega arith))))
+
+-- figures: March 2000 begins on day 60, the end entry is 36525
+pub line-of-march-2000 : entryLine 2 ≡ 54 ∷ 48 ∷ 10 ∷ []
+unfolding entryLine decimal digits monthStart monthLength daysIn isLeap
+line-of-march-2000 = refl
+
+pub line-of-the-end : entryLine months ≡ 51 ∷ 54 ∷ 53 ∷ 50 ∷ 53 ∷ 10 ∷ []
+unfolding entryLine decimal digits monthStart monthLength daysIn isLeap
+line-of-the-end = refl

@@ -77,6 +77,8 @@ firstDayFigures =
     ∷ isLeap 2396
     -- leap days: of 2000, of 2004, of 25 years before 2100, none of 2100, of 97 years before 2400
     ∷ sameNumbers (map leapDays (0 ∷ 1 ∷ 4 ∷ 5 ∷ 100 ∷ 101 ∷ 104 ∷ 105 ∷ 400 ∷ 401 ∷ [])) (0 ∷ 1 ∷ 1 ∷ 2 ∷ 25 ∷ 25 ∷ 25 ∷ 26 ∷ 97 ∷ 98 ∷ [])
+    -- February 2100, 2104, 2200, 2300, 2396 and 2399
+    ∷ sameNumbers (map monthLength (1201 ∷ 1249 ∷ 2401 ∷ 3601 ∷ 4753 ∷ 4789 ∷ [])) (28 ∷ 29 ∷ 28 ∷ 28 ∷ 29 ∷ 28 ∷ [])
     ∷ eqb horizonMonths 4800
     -- January to March 2000, December 2000, January 2001, the table's last month and its end entry
     ∷ firstDayIs 0 0

@@ -1,10 +1,8 @@
 -- `month_lines::put_lines` meets its contract. The loop's invariant: what is left to write is the lines from the month on. Assumes nothing.
-use mathlib.Core.Path.{_≡_, sym, ap}
-use mathlib.Core.List.{[], _∷_, _++_}
 use Prim.Native.Nat.{_≤_, _-_, zero-le}
 use native.Mathlib.Omega.{arith}
 use borrow.Author.Needs.{needs}
-use Rattle.text.specs.Text.{decimal, eachFrom}
+use Rattle.text.specs.Text.{eachFrom}
 use Rattle.text.proofs.TextLaws.{Left, left-start, left-step, left-end, each-step, each-end}
 use Rattle.month_lines.specs.Lines.{entryLine, tableText}
 use Rattle.month_lines.proofs.put_lines.Statement.{statement}
