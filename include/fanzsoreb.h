@@ -187,10 +187,9 @@ uint32_t fanzsoreb_detected(int64_t balance);
  * capacity, each 0 to 10^9 kWh. Cause: 12. */
 fanzsoreb_ceiling_answer fanzsoreb_ceiling(uint32_t offer, uint32_t bilateral, uint32_t futures, uint32_t capacity);
 
-/* The first day of a month by the Gregorian calendar. Months are counted from January 2000, which is 0: month
- * 12 x (year - 2000) + n - 1 is the nth of a year. 0 to 4,799, December 2399. Days are counted as everywhere, 0 is
- * 2000-01-01, up to 146,066, the first of December 2399. A day above 36,524 is told here alone: every other call still
- * refuses it by 4. Cause: 12. New in version 1.1.0. */
+/* The first day of a month by the Gregorian calendar: its number, 0 to 146,066, counted as everywhere from 2000-01-01.
+ * A month is 0 to 4,799, January 2000 to December 2399: 12 x (year - 2000) + n - 1 is the nth of a year. A day above
+ * 36,524 is given by this call alone; every other one still refuses it by 4. Cause: 12. New in version 1.1.0. */
 fanzsoreb_first_day_answer fanzsoreb_first_day(uint32_t month);
 
 /* The month step, on three tables of 32-bit figures as bytes, little-endian, with lengths in bytes:

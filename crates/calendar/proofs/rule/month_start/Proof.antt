@@ -1,11 +1,16 @@
 -- `calendar::rule::month_start` meets its contract. Assumes nothing.
-use mathlib.Core.Path.{sym}
-use Prim.Native.Nat.{_+_, _/_}
+use mathlib.Core.Path.{_≡_, sym}
+use Prim.Native.Nat.{ℕ, _≤_}
 use native.Mathlib.Omega.{arith}
 use borrow.Author.Needs.{needs}
+use Rattle.calendar.specs.Calendar.{leapDays}
 use Rattle.calendar.proofs.RuleLaws.{byRule, leap-most, from-march-1999, start-by-rule}
 use Rattle.calendar.proofs.rule.month_start.Statement.{statement}
 use Rattle.calendar.proofs.rule.month_start.Tie as tie
+
+-- the leap days that the call gave are at most one a year
+few : {n r : ℕ} → r ≡ leapDays n → r ≤ n
+few {n} e = rw e (leap-most n)
 
 add-years : tie.Need-add-years
 add-years c = search needs
@@ -23,7 +28,7 @@ leap-days-requires : tie.Need-leap-days-requires
 leap-days-requires c κs = search needs
 
 add-result : tie.Need-add-result
-add-result c = omega (arith, leap-most ((c .before .args .month + 10) / 12), c .leap-days .ensures)
+add-result c = omega (arith, few (c .leap-days .ensures))
 
 mul-result-2 : tie.Need-mul-result-2
 mul-result-2 c = search needs
@@ -32,7 +37,7 @@ add-result-2 : tie.Need-add-result-2
 add-result-2 c = search needs
 
 add-result-3 : tie.Need-add-result-3
-add-result-3 c = omega (arith, leap-most ((c .before .args .month + 10) / 12), c .leap-days .ensures)
+add-result-3 c = omega (arith, few (c .leap-days .ensures))
 
 sub-result : tie.Need-sub-result
 sub-result c = rw (c .leap-days .ensures) (from-march-1999 (c .before .args .month))
