@@ -10,7 +10,7 @@ use lib.ListN.{getD}
 use borrow.Author.Tests.{eqb-true, eqb-false, eq-eqb, ne-eqb}
 use Rattle.calendar.specs.Calendar.{months, yearOf, isLeap, leapDays, daysIn, monthLength, monthStart}
 use Rattle.numbers.specs.Tests.{allBelow}
-use Rattle.numbers.proofs.TestLaws.{bool-cases, below-or-above, or-cases, allBelow-at}
+use Rattle.numbers.proofs.TestLaws.{bool-cases, or-cases, allBelow-at}
 use Rattle.calendar.proofs.MonthLaws.{start-zero, start-step, start-mono}
 use Rattle.calendar.proofs.MonthTable.{table, table-at}
 
@@ -79,17 +79,13 @@ fromMarch i = (153 * i + 2) / 5
 unfoldable pub byRule : ℕ → ℕ
 byRule m = 365 * ((m + 10) / 12) + leapDays ((m + 10) / 12) + fromMarch ((m + 10) % 12) - 306
 
--- nothing is taken from less
-pub from-march-1999 : (m : ℕ) → 306 ≤ 365 * ((m + 10) / 12) + leapDays ((m + 10) / 12) + fromMarch ((m + 10) % 12)
-from-march-1999 m =
-    elim (below-or-above m 2) [
-      | inl h ↦
-          let i : (m + 10) % 12 ≡ m + 10 = omega arith in
-          rw i (omega arith)
-      | inr h ↦
-          let y : 1 ≤ (m + 10) / 12 = omega arith in
-          omega arith
-    ]
+-- nothing is taken from less: the first year is told of from January on
+pub from-march-1999 : (y leaps i : ℕ) → (y ≡ 0 → 10 ≤ i) → 306 ≤ 365 * y + leaps + (153 * i + 2) / 5
+from-march-1999 zero leaps i h = omega (arith, h refl)
+from-march-1999 (suc y) leaps i h = omega arith
+
+since-march : (m : ℕ) → 306 ≤ 365 * ((m + 10) / 12) + leapDays ((m + 10) / 12) + fromMarch ((m + 10) % 12)
+since-march m = from-march-1999 _ _ _ (λ z. omega arith)
 
 -- each month but February is as long as the step to the next
 usual-test : allBelow 12 (λ j. eqb j 1 || eqb (fromMarch (suc ((j + 10) % 12))) (fromMarch ((j + 10) % 12) + daysIn 2001 (1 + j))) ≡ true
@@ -128,7 +124,7 @@ same-rest m = go (m / 12) (m % 12) (omega arith)
 pub rule-step : (m : ℕ) → byRule (suc m) ≡ byRule m + monthLength m
 unfolding byRule monthLength
 rule-step m =
-    let p = from-march-1999 m in
+    let p = since-march m in
     let below : m % 12 < 12 = omega arith in
     elim (bool-cases (eqb (m % 12) 1)) [
       | inl e ↦
@@ -170,10 +166,10 @@ leap-cycle n =
 pub start-cycle : (m : ℕ) → monthStart (m + 4800) ≡ monthStart m + 146097
 unfolding byRule
 start-cycle m =
-    let p = from-march-1999 m in
+    let p = since-march m in
     let y : (m + 4800 + 10) / 12 ≡ (m + 10) / 12 + 400 = omega arith in
     let i : (m + 4800 + 10) % 12 ≡ (m + 10) % 12 = omega arith in
     start-by-rule (m + 4800) ∙ rw (y, i, leap-cycle ((m + 10) / 12)) (omega arith) ∙ ap (λ d. d + 146097) (sym (start-by-rule m))
 
-pub start-most : (m : ℕ) → m < 4800 → monthStart m ≤ 146097
+pub start-most : (m : ℕ) → m ≤ 4800 → monthStart m ≤ 146097
 start-most m h = omega (arith, start-mono m (0 + 4800) (omega arith), start-cycle 0, start-zero)

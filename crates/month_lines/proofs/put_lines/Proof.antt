@@ -35,13 +35,13 @@ unfolding entryLine
 loop-again c =
     let p = c .before .before in
     let t = p .before .before .before in
-    (omega arith, left-step (t .before .loop .inv .1) (each-step entryLine 1201 (t .before .loop .month) (t .loop-test .taken)) (rw (p .before .month-start .ensures) at (p .put-number .ensures)))
+    (omega arith, left-step (t .before .loop .inv .1) (each-step entryLine 1201 (t .before .loop .month) (omega arith)) (rw (p .before .month-start .ensures) at (p .put-number .ensures)))
 
 same-length : tie.Need-same-length Inv-loop μ-loop
 same-length c = c .before .loop .inv .1 .long
 
 returns : tie.Need-returns Inv-loop μ-loop
-returns c = left-end (c .before .loop .inv .1) (each-end _ 1201 (c .before .loop .month) (c .loop-test .left))
+returns c = left-end (c .before .loop .inv .1) (each-end _ 1201 (c .before .loop .month) (omega arith))
 
 pub put-lines-spec : {M : Type 1} → statement M
 put-lines-spec =

@@ -40,7 +40,7 @@ add-result-3 : tie.Need-add-result-3
 add-result-3 c = omega (arith, few (c .leap-days .ensures))
 
 sub-result : tie.Need-sub-result
-sub-result c = rw (c .leap-days .ensures) (from-march-1999 (c .before .args .month))
+sub-result c = from-march-1999 _ _ _ (λ z. omega arith)
 
 returns : tie.Need-returns
 unfolding byRule
