@@ -24,6 +24,12 @@ def written(program, source, before=None, arguments=()):
         return out.read(), errors, status
 
 
+def shown(value):
+    """A value in one line of some length."""
+    text = repr(value)
+    return text if len(text) <= 300 else text[:200] + ' .. ' + text[-100:]
+
+
 def judge(cases):
     """Says of each case (its name, what was found, what is due) whether it holds; 1 if one does not."""
     failed = 0
@@ -34,6 +40,6 @@ def judge(cases):
             print('ok   ' + name)
         else:
             failed += 1
-            print('FAIL %s: %s, not %s' % (name, found, due))
+            print('FAIL %s: %s, not %s' % (name, shown(found), shown(due)))
     print('%d passed, %d failed' % (passed, failed))
     return 1 if failed else 0

@@ -1,5 +1,5 @@
-/* Tally, both balances, detection, sales ceiling, first days, month step (document 01, 'The two balances', 'Sales ceiling',
- * 'Month step'). */
+/* Tally, both balances, detection, sales ceiling, month step (document 01, 'The two balances', 'Sales ceiling',
+ * 'Month step'), first days (document 02, T-08). */
 
 /* The cause of a tally; a refused one has no figure. */
 static uint32_t tally_cause(uint32_t party, uint32_t day)

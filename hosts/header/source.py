@@ -8,8 +8,8 @@ TYPES = {"u8": "uint8_t", "u32": "uint32_t", "u64": "uint64_t", "i64": "int64_t"
 STRUCTS = {
     "Posted": "posted", "Counted": "counted", "EntryRead": "entry_read", "BalanceAnswer": "balance", "Tally": "sums",
     "TallyAnswer": "tally_answer", "Month": "month_figures", "MonthAnswer": "month_answer",
-    "CeilingAnswer": "ceiling_answer", "FirstDayAnswer": "first_day_answer", "Controlled": "controlled", "FileRead": "file_read",
-    "Collateral": "collateral_answer",
+    "CeilingAnswer": "ceiling_answer", "FirstDayAnswer": "first_day_answer", "Controlled": "controlled",
+    "FileRead": "file_read", "Collateral": "collateral_answer",
 }
 LENGTHS = {}  # lengths of arrays by the names of their constants
 

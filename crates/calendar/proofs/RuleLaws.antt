@@ -9,6 +9,7 @@ use lib.Dec.{eqb}
 use lib.ListN.{getD}
 use borrow.Author.Tests.{eqb-true, eqb-false, eq-eqb, ne-eqb}
 use Rattle.calendar.specs.Calendar.{months, yearOf, isLeap, leapDays, daysIn, monthLength, monthStart}
+use Rattle.numbers.specs.Sums.{sum, countBelow}
 use Rattle.numbers.specs.Tests.{allBelow}
 use Rattle.numbers.proofs.TestLaws.{bool-cases, or-cases, allBelow-at}
 use Rattle.calendar.proofs.MonthLaws.{start-zero, start-step, start-mono}
@@ -63,7 +64,7 @@ leap-rule-step n =
     (λ e. let z = eqb-true (n % 400) 0 e in eq-eqb (n % 100) 0 (omega arith)))
 
 pub leap-rule : (n : ℕ) → leapDays n ≡ leapRule n
-unfolding leapDays
+unfolding leapDays countBelow sum
 leap-rule zero = refl
 leap-rule (suc n) = ap (λ l. l + cond (isLeap (2000 + n)) 1 0) (leap-rule n) ∙ sym (leap-rule-step n)
 
@@ -80,7 +81,7 @@ unfoldable pub byRule : ℕ → ℕ
 byRule m = 365 * ((m + 10) / 12) + leapDays ((m + 10) / 12) + fromMarch ((m + 10) % 12) - 306
 
 -- nothing is taken from less: the first year is told of from January on
-pub from-march-1999 : (y leaps i : ℕ) → (y ≡ 0 → 10 ≤ i) → 306 ≤ 365 * y + leaps + (153 * i + 2) / 5
+pub from-march-1999 : (y leaps i : ℕ) → (y ≡ 0 → 10 ≤ i) → 306 ≤ 365 * y + leaps + fromMarch i
 from-march-1999 zero leaps i h = omega (arith, h refl)
 from-march-1999 (suc y) leaps i h = omega arith
 
@@ -107,7 +108,7 @@ usual y j h e =
 
 -- a year with a leap day has it in February, its last month here
 february : (q : ℕ) → 365 * suc q + leapDays (suc q) + 0 - 306 ≡ 365 * q + leapDays q + 337 - 306 + daysIn (2000 + q) 2
-unfolding leapDays daysIn
+unfolding leapDays countBelow sum daysIn
 february q = go (leapDays q) (isLeap (2000 + q))
   where
     go : (l : ℕ) (leap : Bool) → 365 * suc q + (l + cond leap 1 0) + 0 - 306 ≡ 365 * q + l + 337 - 306 + cond leap 29 28
@@ -143,7 +144,7 @@ rule-step m =
     ]
 
 pub rule-zero : byRule 0 ≡ 0
-unfolding byRule leapDays
+unfolding byRule leapDays countBelow sum
 rule-zero = refl
 
 -- the definition and the rule are one function

@@ -2,6 +2,7 @@
 use mathlib.Core.Bool.{Bool, not, cond, _&&_, _||_}
 use Prim.Native.Nat.{ℕ, zero, suc, _+_, _-_, _/_, _%_}
 use lib.Dec.{eqb, ltb}
+use Rattle.numbers.specs.Sums.{countBelow}
 
 -- the table covers 1,200 months, 2000 to 2099, and their 36,525 days
 abbrev pub months : ℕ
@@ -14,10 +15,9 @@ days = 36525
 unfoldable pub isLeap : ℕ → Bool
 isLeap y = eqb (y % 4) 0 && (not (eqb (y % 100) 0) || eqb (y % 400) 0)
 
--- the leap days of the first n years from 2000 on
+-- how many of the first n years from 2000 on have a leap day (02, T-08)
 unfoldable pub leapDays : ℕ → ℕ
-leapDays zero = 0
-leapDays (suc n) = leapDays n + cond (isLeap (2000 + n)) 1 0
+leapDays n = countBelow n (λ k. isLeap (2000 + k))
 
 -- the days of a month, 1 to 12, of a year
 unfoldable pub daysIn : ℕ → ℕ → ℕ
