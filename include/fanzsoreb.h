@@ -47,9 +47,9 @@
 extern "C" {
 #endif
 
-/* 1.1.0: major x 10,000 + minor x 100 + patch. A changed struct or signature raises the major number, a new call the
+/* 1.1.1: major x 10,000 + minor x 100 + patch. A changed struct or signature raises the major number, a new call the
  * minor one, any other change the patch. */
-#define FANZSOREB_VERSION 10100
+#define FANZSOREB_VERSION 10101
 
 #define FANZSOREB_MOST_ENTRIES 3072      /* of a book */
 #define FANZSOREB_BOOK_BYTES 61452       /* of a book with room for as many, 12 + 20 x 3,072 */

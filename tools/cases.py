@@ -1,4 +1,4 @@
-"""Programs run as cases, for test-balance and test-month-table: what a program writes, and a count of what is as due."""
+"""For test-balance, test-month-table and test-branches: what a program writes, and a count of what is as due."""
 import os
 import subprocess
 import tempfile

@@ -64,6 +64,7 @@ static void at_offset(size_t offset)
     tallies(offset);
     balances(offset);
     months(offset);
+    months_weighed(offset);
     months_refused(offset);
     longest_month(offset);
     plain_supplier(offset);

@@ -225,6 +225,49 @@ static void months(size_t offset)
     CHECK(m.answer == FANZSOREB_DONE && m.month.aosmf == 101 && m.month.aedm == -1);
 }
 
+/* The average of two hours at prices 1 and 0, by their imbalances. */
+static fanzsoreb_month_answer weighed(size_t offset, int32_t first, int32_t second)
+{
+    two_groups(offset);
+    store(prices, 0, 1);
+    store(prices, 1, 0);
+    store(imbalance, 0, (uint32_t)first);
+    store(imbalance, 1, (uint32_t)second);
+    store(dm, 0, 0);
+    store(dm, 1, 0);
+    return month(2, 2, 1, 0);
+}
+
+/* Each of -10^7, -1, 0, 1 and 10^7 beside each: equal weights are 0.5, up, and a first one that weighs less is below it.
+   In a whole table, 9,536 hours of each, the hours 298 to 446 have 13/64 of all weights, at price 32 just 6.5, and the
+   149 hours before or after them less. */
+static void months_weighed(size_t offset)
+{
+    static const int32_t edges[5] = {-10000000, -1, 0, 1, 10000000};
+    static const uint32_t sizes[5] = {10000000, 1, 0, 1, 10000000};
+    fanzsoreb_month_answer m;
+    size_t i, k;
+    for (i = 0; i < 25; i++) {
+        m = weighed(offset, edges[i / 5], edges[i % 5]);
+        CHECK(m.answer == FANZSOREB_DONE && m.month.aedm == edges[i / 5] + edges[i % 5]);
+        CHECK(m.month.aosmf == (sizes[i / 5] > 0 && sizes[i / 5] >= sizes[i % 5]));
+    }
+    CHECK(weighed(offset, -9999999, 10000000).month.aosmf == 0);
+    CHECK(weighed(offset, 9999999, -10000000).month.aosmf == 0);
+    m = weighed(offset, INT32_MIN, 1);
+    CHECK(m.answer == FANZSOREB_BAD_FIGURE && m.month.aosmf == 0 && m.month.aedm == 0);
+    for (i = 0; i < 745 * 64; i++)
+        store(imbalance, i, (uint32_t)edges[i / 9536]);
+    for (k = 1; k < 4; k++) {
+        for (i = 0; i < 745; i++) {
+            store(prices, i, i / 149 == k ? 32 : 0);
+            store(dm, i, 0);
+        }
+        m = month(745, 745 * 64, 64, 12); /* 596 hours of -10^7 and 149 of -1 */
+        CHECK(m.answer == FANZSOREB_DONE && m.month.aosmf == (k == 2 ? 7 : 6) && m.month.aedm == -5960000149);
+    }
+}
+
 static void months_refused(size_t offset)
 {
     two_groups(offset);

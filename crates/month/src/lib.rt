@@ -1,5 +1,6 @@
 // The month step: a month's average price and a group's imbalance volume (01, 'Month step').
 mod ranges;
+mod sizes;
 mod sums;
 
 ghost use mathlib.Core.Path.{_≡_};

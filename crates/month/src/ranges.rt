@@ -5,6 +5,7 @@ ghost use Prim.Native.Nat.{_*_};
 ghost use lib.Dec.{eqb, leb};
 ghost use Rattle.numbers.specs.Tests.{every, all};
 ghost use Rattle.rules.specs.Month.{mostHours, mostPrice, volumeOk, tablesOf, monthCause};
+use crate::sizes;
 use rules::bounds::MOST_HOURS;
 use rules::bounds::MOST_IMBALANCE;
 use rules::bounds::MOST_PRICE;
@@ -55,7 +56,7 @@ fn volumes_ok(volumes: &[i32]) -> bool
     let mut ok = true;
     let mut i = 0;
     while i < volumes.len() {
-        ok = ok & (numbers::magnitude(volumes[i] as i64) <= MOST_IMBALANCE);
+        ok = ok & (sizes::size(volumes[i]) as u64 <= MOST_IMBALANCE);
         i += 1;
     }
     ok

@@ -4,6 +4,7 @@ ghost use lib.IntN.{_-ℤ_};
 ghost use Rattle.numbers.specs.Rounding.{halfUp};
 ghost use Rattle.rules.specs.Month.{tablesOf, monthCause, monthFigures};
 ghost use Rattle.month.specs.Rows.{PricedRow, DmRow, rowWeighted, rowWeights, rowVolume};
+use crate::sizes;
 use rules::Month;
 
 // The two sums that AOSMF divides.
@@ -41,7 +42,7 @@ fn row_sums(prices: &[u32], imbalance: &[i32], at: usize) -> Sums
     let mut weights: u64 = 0;
     let mut h = 0;
     while h < prices.len() {
-        let weight = numbers::magnitude(imbalance[at + h] as i64);
+        let weight = sizes::size(imbalance[at + h]) as u64;
         weighted += weight * (prices[h] as u64);
         weights += weight;
         h += 1;

@@ -1,5 +1,5 @@
-// The month step, the sales ceiling and first days of months against the list on standard input, whose figures are worked out
-// by hand from documents 01 and 02.
+// The month step, the sales ceiling, first days of months and |x| against the list on standard input, whose figures are worked
+// out by hand from documents 01 and 02.
 mod tables;
 
 use caselist::rows::Row;
@@ -45,6 +45,11 @@ fn begun(r: Row) -> bool {
     (got.answer as u64 == r.b) & (got.day as u64 == r.c)
 }
 
+// The size of a signed figure.
+fn sized(r: Row) -> bool {
+    numbers::magnitude(signed(r.a)) == r.b
+}
+
 // The month step on the tables as they stand.
 fn lend(prices: &[u32], imbalance: &[i32], dm: &[i32], r: Row, l: Lengths) -> bool {
     let hours = l.prices as usize;
@@ -68,6 +73,9 @@ fn asked(prices: &[u32], imbalance: &[i32], dm: &[i32], r: Row, l: Lengths) -> b
     }
     if r.call == b'D' {
         return begun(r);
+    }
+    if r.call == b'A' {
+        return sized(r);
     }
     if (r.call == b'Q') | (r.call == b'R') {
         return lend(prices, imbalance, dm, r, l);

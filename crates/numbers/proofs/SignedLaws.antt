@@ -1,17 +1,16 @@
 -- Laws of signed figures: differences of natural numbers, the order, the lower of two, and sums. Assumes nothing.
-use mathlib.Core.Path.{_≡_, refl, sym, _∙_, ap, ap₂}
+use mathlib.Core.Path.{_≡_, refl, ap}
 use mathlib.Core.Logic.{_⊎_, inl, inr}
-use mathlib.Core.Bool.{Bool, true, false, not, cond, true≢false}
+use mathlib.Core.Bool.{Bool, true, false, not, cond}
 use Prim.Native.Nat.{ℕ, zero, suc, _+_, _*_, _-_, max, _≤_, _<_, zero-le}
-use native.Mathlib.Nat.{not-suc-le-zero, le-trans, le-antisymm, le-refl, le-max-left, le-max-right, suc-mul}
+use native.Mathlib.Nat.{le-refl, le-max-left, le-max-right, suc-mul}
 use native.Mathlib.Numerals.{add-one}
 use native.Mathlib.Omega.{arith}
-use lib.Dec.{T, ltb, leb→le, le→leb, ltb→lt}
-use lib.IntN.{ℤ, pos, negsuc, natAbs, negℤ, subℕ, _+ℤ_, _-ℤ_}
-use lib.Signed.{mag, nonNeg, ltZ, leZ, _≤ℤ_, _<ℤ_, leZ-yes, ltZ-yes, ltZ-no, ≤ℤ-refl}
-use borrow.Author.Tests.{ltb-true, lt-ltb, le-ltb}
-use Rattle.numbers.specs.Sums.{sum}
-use Rattle.numbers.specs.Signed.{isPositive, isNegative, lower, sumℤ}
+use lib.Dec.{T, le→leb, ltb→lt}
+use lib.IntN.{ℤ, pos, negsuc, natAbs, negℤ, subℕ, _+ℤ_}
+use lib.Signed.{ltZ, leZ, _≤ℤ_, _<ℤ_, leZ-yes}
+use borrow.Author.Tests.{lt-ltb, le-ltb}
+use Rattle.numbers.specs.Signed.{lower, sumℤ}
 use Rattle.numbers.proofs.TestLaws.{below-or-above}
 
 -- a difference by cases
@@ -54,20 +53,6 @@ natAbs-sub a b = go (below-or-above a b)
     go (inr p) = rw (sub-above a b p) (omega arith)
 
 -- the order
-trans′ : (a b c : ℤ) → T (leZ a b) → T (leZ b c) → T (leZ a c)
-trans′ (pos a) (pos b) (pos c) h k = le→leb a c (le-trans (leb→le a b h) (leb→le b c k))
-trans′ (pos a) (pos b) (negsuc c) h k = absurd k
-trans′ (pos a) (negsuc b) c h k = absurd h
-trans′ (negsuc a) b (pos c) h k = tt
-trans′ (negsuc a) (pos b) (negsuc c) h k = absurd k
-trans′ (negsuc a) (negsuc b) (negsuc c) h k = le→leb c a (le-trans (leb→le c b k) (leb→le b a h))
-
-antisymm′ : (a b : ℤ) → T (leZ a b) → T (leZ b a) → a ≡ b
-antisymm′ (pos a) (pos b) h k = ap pos (le-antisymm (leb→le a b h) (leb→le b a k))
-antisymm′ (pos a) (negsuc b) h k = absurd h
-antisymm′ (negsuc a) (pos b) h k = absurd k
-antisymm′ (negsuc a) (negsuc b) h k = ap negsuc (le-antisymm (leb→le a b k) (leb→le b a h))
-
 weaken′ : (a b : ℤ) → T (ltZ a b) → T (leZ a b)
 weaken′ (pos a) (pos b) h = le→leb a b (omega (arith, ltb→lt a b h))
 weaken′ (pos a) (negsuc b) h = h
@@ -76,19 +61,6 @@ weaken′ (negsuc a) (negsuc b) h = le→leb b a (omega (arith, ltb→lt b a h))
 
 pub <ℤ-≤ℤ : {a b : ℤ} → a <ℤ b → a ≤ℤ b
 <ℤ-≤ℤ {a} {b} h = record { le = weaken′ a b (h .lt) }
-
--- a number below zero, by its distance from -1
-pub minus-one-less : (z : ℤ) → isNegative z ≡ true → negsuc 0 -ℤ z ≡ pos (mag z)
-minus-one-less (pos n) e = absurd (not-suc-le-zero (ltb-true n 0 e))
-minus-one-less (negsuc n) e = sub-above (suc n) 1 (omega arith) ∙ ap pos (omega arith)
-
-pub natAbs-negative : (z : ℤ) → isNegative z ≡ true → natAbs z ≡ mag z + 1
-natAbs-negative (pos n) e = absurd (not-suc-le-zero (ltb-true n 0 e))
-natAbs-negative (negsuc n) e = omega arith
-
-pub not-negative : (z : ℤ) → isNegative z ≡ false → T (nonNeg z)
-not-negative (pos n) e = tt
-not-negative (negsuc n) e = absurd (true≢false e)
 
 -- the lower of two
 lower-ind : (P : ℤ → Type 0) (a b : ℤ) → (T (not (ltZ b a)) → P a) → (T (ltZ b a) → P b) → P (lower a b)

@@ -4,15 +4,17 @@ ghost use Prim.Native.Nat.{max};
 ghost use lib.IntN.{natAbs};
 ghost use Rattle.numbers.specs.Rounding.{halfUp, roundUp};
 
-// The absolute value of a signed figure.
+// 2^63, the size of the lowest signed figure.
+const LOWEST: u64 = 9223372036854775808;
+
+// The absolute value of a signed figure, by arithmetic (02, T-04). Without its sign bit a figure is itself, or 2^63 more where
+// it is below zero.
 pub fn magnitude(x: i64) -> u64
     ensures { λ r. ⌜ r ≡ natAbs x ⌝ }
 {
-    if x < 0 {
-        ((-1 - x) as u64) + 1
-    } else {
-        x as u64
-    }
+    let below = (x < 0) as u64;
+    let bits = (x & i64::MAX) as u64;
+    bits * (1 - below) + (LOWEST - bits) * below
 }
 
 // The larger of two figures.

@@ -40,7 +40,7 @@ fn no_difference_where_there_is_none() {
 #[test]
 fn worked_figures() {
     let worked = figures(&Second);
-    assert_eq!((worked.compared, worked.failed), (105, 0));
+    assert_eq!((worked.compared, worked.failed), (122, 0));
     for slip in [
         "open_default: the old coefficient",
         "open_default: the old tolerance",
@@ -48,6 +48,8 @@ fn worked_figures() {
         "delivery: tender and import are added",
         "detected: zero too",
         "month: halves down",
+        "month: a weight below zero is one less",
+        "month: no imbalance weighs one",
         "ceiling: below only",
         "first_day: 2100 is a leap year",
         "first_day: 2000 is no leap year",
@@ -434,6 +436,13 @@ impl Engine for Wrong {
         };
         let (imbalance, dm) = (signed(t.imbalance), signed(t.dm));
         let hours = prices.len();
+        let sums = |size: &dyn Fn(i64) -> u64| -> (u64, u64) {
+            let weighted = |(i, v): (usize, &i64)| size(*v) * u64::from(prices[i % hours]);
+            let weight = imbalance.iter().map(|v| size(*v)).sum();
+            (imbalance.iter().enumerate().map(weighted).sum(), weight)
+        };
+        let average =
+            |(weighted, weight): (u64, u64)| (2 * weighted + weight) / (2 * weight).max(1);
         let mut wrong = right;
         match self.0 {
             "month: prices without weights" => {
@@ -443,14 +452,16 @@ impl Engine for Wrong {
                 }
             }
             "month: halves down" => {
-                let (mut weighted, mut weight) = (0, 0);
-                for (i, value) in imbalance.iter().enumerate() {
-                    weighted += value.unsigned_abs() * u64::from(prices[i % hours]);
-                    weight += value.unsigned_abs();
-                }
+                let (weighted, weight) = sums(&|v| v.unsigned_abs());
                 if weight > 0 && 2 * (weighted % weight) == weight {
                     wrong.aosmf = weighted / weight;
                 }
+            }
+            "month: a weight below zero is one less" => {
+                wrong.aosmf = average(sums(&|v| v.unsigned_abs() - u64::from(v < 0)));
+            }
+            "month: no imbalance weighs one" => {
+                wrong.aosmf = average(sums(&|v| v.unsigned_abs().max(1)));
             }
             "month: secondary control is added" => wrong.aedm += 2 * dm.iter().sum::<i64>(),
             "month: the first group" => {
@@ -770,7 +781,7 @@ impl Wrong {
     }
 }
 
-const SLIPS: [&str; 81] = [
+const SLIPS: [&str; 83] = [
     "is_book: status 3 is allowed",
     "is_book: a cancelled export is allowed",
     "is_book: more than 3,072 entries are allowed",
@@ -817,6 +828,8 @@ const SLIPS: [&str; 81] = [
     "month: rows × hours wraps",
     "month: prices without weights",
     "month: halves down",
+    "month: a weight below zero is one less",
+    "month: no imbalance weighs one",
     "month: secondary control is added",
     "month: the first group",
     "month: hour after hour",

@@ -20,6 +20,8 @@ pub fn figures<E: Engine>(engine: &E) -> Worked<'_, E> {
     worked.opened_without_figures();
     worked.margins();
     worked.months();
+    worked.weights();
+    worked.weights_of_a_table();
     worked.items();
     worked.ceilings();
     worked.first_days();
@@ -128,6 +130,56 @@ impl<E: Engine> Worked<'_, E> {
         for (tables, aosmf) in [(two, 101), (none, 0)] {
             let answer = self.engine.month(tables);
             self.holds("average price", (answer.answer, answer.aosmf), (0, aosmf));
+        }
+    }
+
+    /// 02, T-04: an imbalance beside another one at prices 1 and 0. Equal weights are 0.5, up.
+    fn weights(&mut self) {
+        const MOST: i32 = 10_000_000;
+        let (prices, dm) = (bytes(&[1, 0]), bytes(&[0, 0]));
+        for (first, second, stated) in [
+            (-MOST, MOST, (0, 1, 0)),
+            (MOST, -MOST, (0, 1, 0)),
+            (1 - MOST, MOST, (0, 0, 1)),
+            (MOST - 1, -MOST, (0, 0, -1)),
+            (-1, 1, (0, 1, 0)),
+            (1, -1, (0, 1, 0)),
+            (0, -1, (0, 0, -1)),
+            (0, 1, (0, 0, 1)),
+            (-1, 0, (0, 1, -1)),
+            (1, 0, (0, 1, 1)),
+            (0, 0, (0, 0, 0)),
+            (i32::MIN, 0, (12, 0, 0)),
+            (0, -MOST - 1, (12, 0, 0)),
+        ] {
+            let imbalance = bytes(&[first as u32, second as u32]);
+            let tables =
+                Tables { prices: &prices, imbalance: &imbalance, rows: 1, dm: &dm, group: 0 };
+            let got = self.engine.month(tables);
+            self.holds("two imbalances", (got.answer, got.aosmf, got.aedm), stated);
+        }
+    }
+
+    /// The same figures in a whole table: 64 × 149 hours of each. A row is five parts of 149 hours,
+    /// one of them at price 32. All weights are 64 × 20,000,002, in units of 149 hours; the second
+    /// part's are 260,000,025, below 13/64 of them, the third's 260,000,026, which is 13/64: 6.5.
+    fn weights_of_a_table(&mut self) {
+        let figures = [-10_000_000, -1, 0, 1, 10_000_000_i32].map(|v| vec![v as u32; 9_536]);
+        let (imbalance, dm) = (bytes(&figures.concat()), bytes(&[0; 745]));
+        for (part, group, aosmf, aedm) in [
+            (1, 12, 6, -5_960_000_149),
+            (2, 25, 7, -447),
+            (3, 38, 6, 447),
+            (3, 51, 6, 5_960_000_149),
+        ] {
+            let mut prices = [0; 745];
+            prices[149 * part..149 * (part + 1)].fill(32);
+            let prices = bytes(&prices);
+            let tables =
+                Tables { prices: &prices, imbalance: &imbalance, rows: 64, dm: &dm, group };
+            let got = self.engine.month(tables);
+            let stated = (0, aosmf, aedm);
+            self.holds("a whole table", (got.answer, got.aosmf, got.aedm), stated);
         }
     }
 

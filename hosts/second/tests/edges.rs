@@ -396,6 +396,33 @@ fn largest_month() {
     assert_eq!(month_step(&prices, &short, 64, &long, 63), month(0, 1_000_000, -14_900_000_000));
 }
 
+/// 02, T-04: one imbalance beside another at prices 1 and 0. Equal weights are 0.5, up; a first one
+/// that weighs less is below the half.
+#[test]
+fn weights_at_the_edges() {
+    const MOST: i32 = 10_000_000;
+    for [first, second] in [[-MOST, MOST], [MOST, -MOST], [-1, 1], [1, -1], [1, 0], [-1, 0]] {
+        let volume = i64::from(first + second);
+        let answer = month_step(&[1, 0], &[first, second], 1, &[0, 0], 0);
+        assert_eq!(answer, month(0, 1, volume), "{first} {second}");
+    }
+    for [first, second] in [[1 - MOST, MOST], [MOST - 1, -MOST], [0, 1], [0, -1], [0, 0]] {
+        let volume = i64::from(first + second);
+        let answer = month_step(&[1, 0], &[first, second], 1, &[0, 0], 0);
+        assert_eq!(answer, month(0, 0, volume), "{first} {second}");
+    }
+    // A table of 64 groups, 64 × 149 hours of each value. Each row is five parts of 149 hours, one
+    // of them at price 32. All weights are 64 × 20,000,002, in units of 149 hours; the parts' are
+    // 250,000,026, 260,000,025, 260,000,026 (6.5, up), 260,000,025 and 250,000,026.
+    let figures = [-MOST, -1, 0, 1, MOST].map(|v| vec![v; 9_536]).concat();
+    for (part, average) in [6, 6, 7, 6, 6].into_iter().enumerate() {
+        let mut prices = [0; 745];
+        prices[149 * part..149 * (part + 1)].fill(32);
+        let answer = month_step(&prices, &figures, 64, &[0; 745], 12);
+        assert_eq!(answer, month(0, average, -5_960_000_149), "part {part}");
+    }
+}
+
 #[test]
 fn causes_of_a_month() {
     let ok = [1, 1];

@@ -1,56 +1,85 @@
 -- `numbers::magnitude` meets its contract. Assumes nothing.
-use mathlib.Core.Path.{_≡_, sym, _∙_, ap, subst}
+use mathlib.Core.Path.{_≡_, _∙_, ap}
+use mathlib.Core.Bool.{Bool, true, false}
+use Prim.Native.Nat.{ℕ, _+_, _*_, _-_, _%_, _^_, _≤_, zero-le}
 use native.Mathlib.Omega.{arith}
-use lib.IntN.{ℤ, pos, negsuc, natAbs, _-ℤ_}
-use lib.Signed.{mag, natAbs-le}
+use lib.Bits.{bitAnd, and-mask}
+use lib.Dec.{T, leb, leb→le}
+use lib.IntN.{ℤ, pos, negsuc, natAbs}
+use borrow.Author.Needs.{needs}
+use borrow.Author.Tests.{le-ltb}
 use mir.Syntax.{w64}
-use mir.Val.{SFits, toZ, ofZ}
+use mir.Val.{Fits, SFits, boolByte, toZ, ofZ}
 use mir.ValLaws.{toZ-ofZ}
-use mathlib.Core.Bool.{true}
 use Rattle.numbers.specs.Signed.{isNegative}
-use Rattle.numbers.proofs.SignedLaws.{minus-one-less, natAbs-negative, not-negative}
 use Rattle.numbers.proofs.magnitude.Statement.{statement}
 use Rattle.numbers.proofs.magnitude.Tie as tie
 
--- a negative argument and its distance from -1, read back from their bits
-module _ (x : ℤ) (f : SFits w64 x) (n : isNegative (toZ w64 (ofZ w64 x)) ≡ true) where
-  negative : isNegative x ≡ true
-  negative = subst (λ z. isNegative z ≡ true) (toZ-ofZ w64 x f) n
+-- 64 bits without that of the sign
+without-sign : (a : ℕ) → toZ w64 (bitAnd a (2 ^ 63 - 1)) ≡ pos (a % 2 ^ 63)
+without-sign a = ap (toZ w64) (and-mask a 63) ∙ toZ-ofZ w64 (pos (a % 2 ^ 63)) (record { sfits = omega arith })
 
-  distance : negsuc 0 -ℤ toZ w64 (ofZ w64 x) ≡ pos (mag x)
-  distance = ap (λ z. negsuc 0 -ℤ z) (toZ-ofZ w64 x f) ∙ minus-one-less x negative
+-- of two figures one is taken, by any test: each step fits, whatever number up to 2^63 the second is counted from
+one : (t : Bool) → boolByte t ≤ 1
+one true = omega arith
+one false = omega arith
 
-  distance-back : toZ w64 (ofZ w64 (negsuc 0 -ℤ toZ w64 (ofZ w64 x))) ≡ pos (mag x)
-  distance-back = ap (λ z. toZ w64 (ofZ w64 z)) distance ∙ toZ-ofZ w64 (pos (mag x)) (record { sfits = f .sfits })
+first-fits : (a : ℕ) (t : Bool) → Fits w64 ((a % 2 ^ 63) * (1 - boolByte t))
+first-fits a true = record { fits = omega arith }
+first-fits a false = record { fits = omega arith }
+
+module _ (a k : ℕ) (h : T (leb k (2 ^ 63))) where
+  second-fits : (t : Bool) → Fits w64 ((k - a % 2 ^ 63) * boolByte t)
+  second-fits true = record { fits = omega (arith, leb→le k (2 ^ 63) h) }
+  second-fits false = record { fits = omega arith }
+
+  sum-fits : (t : Bool) → Fits w64 ((a % 2 ^ 63) * (1 - boolByte t) + (k - a % 2 ^ 63) * boolByte t)
+  sum-fits true = record { fits = omega (arith, leb→le k (2 ^ 63) h) }
+  sum-fits false = record { fits = omega arith }
+
+-- taken by its sign, from 2^63
+size : (x : ℤ) → SFits w64 x →
+    (ofZ w64 x % 2 ^ 63) * (1 - boolByte (isNegative x)) + (2 ^ 63 - ofZ w64 x % 2 ^ 63) * boolByte (isNegative x) ≡ natAbs x
+size (pos n) f = rw (le-ltb n 0 zero-le) (omega (arith, f .sfits))
+size (negsuc n) f = omega (arith, f .sfits)
+
+cast-below : tie.Need-cast-below
+cast-below c = search needs
+
+-- the bits of the number that came in
+abbrev bits : tie.Start → ℕ
+bits c = ofZ w64 (c .args .x)
+
+cast-bits : tie.Need-cast-bits
+cast-bits c = rw (without-sign (bits c)) (tt, record { fits = omega arith })
 
 sub-result : tie.Need-sub-result
-sub-result c =
-    rw (distance (c .before .args .x) (c .before .fits .x) (c .if1 .taken))
-    (record { sfits = c .before .fits .x .sfits })
+sub-result c = search one
 
-cast-result : tie.Need-cast-result
-cast-result c =
-    rw (distance-back (c .before .args .x) (c .before .fits .x) (c .if1 .taken))
-    (tt, omega (arith, c .before .fits .x .sfits))
+mul-result : tie.Need-mul-result
+mul-result c = rw (without-sign (bits c)) (search first-fits)
+
+sub-result-2 : tie.Need-sub-result-2
+sub-result-2 c = rw (without-sign (bits c)) (omega arith)
+
+mul-result-2 : tie.Need-mul-result-2
+mul-result-2 c = rw (without-sign (bits c)) (search second-fits)
 
 add-result : tie.Need-add-result
-add-result c =
-    rw (distance-back (c .before .args .x) (c .before .fits .x) (c .if1 .taken))
-    (omega (arith, c .before .fits .x .sfits))
-
-cast-result-2 : tie.Need-cast-result-2
-cast-result-2 c =
-    rw (toZ-ofZ w64 (c .before .args .x) (c .before .fits .x))
-    (not-negative (c .before .args .x) (rw (toZ-ofZ w64 (c .before .args .x) (c .before .fits .x)) at (c .if1 .left)), omega (arith, natAbs-le (c .before .args .x) (c .before .fits .x .sfits)))
+add-result c = rw (without-sign (bits c)) (search sum-fits)
 
 returns : tie.Need-returns
-returns c =
-    rw (distance-back (c .before .args .x) (c .before .fits .x) (c .if1 .taken))
-    (sym (natAbs-negative (c .before .args .x) (negative (c .before .args .x) (c .before .fits .x) (c .if1 .taken))))
-
-returns-2 : tie.Need-returns-2
-returns-2 c = ap natAbs (toZ-ofZ w64 (c .before .args .x) (c .before .fits .x))
+returns c = rw (without-sign (bits c), toZ-ofZ w64 (c .args .x) (c .fits .x)) (size (c .args .x) (c .fits .x))
 
 pub magnitude-spec : {M : Type 1} → statement M
 magnitude-spec =
-    tie.close (tie.spec sub-result cast-result add-result cast-result-2 returns returns-2)
+    tie.close
+    (tie.spec
+    cast-below
+    cast-bits
+    sub-result
+    mul-result
+    sub-result-2
+    mul-result-2
+    add-result
+    returns)

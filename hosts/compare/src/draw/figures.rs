@@ -80,9 +80,11 @@ pub fn month(rng: &mut Rng) -> Call {
     }
     let flat = rng.percent(8);
     let small = rng.percent(40);
+    let edges = rng.percent(10);
     let value = |rng: &mut Rng| -> u32 {
         let value = match rng.below(10) {
             _ if flat => 0,
+            _ if edges => rng.pick(&[-MOST_VALUE, -1, 0, 1, MOST_VALUE]),
             0 | 1 => 0,
             _ if small => rng.between(0, 6) as i64 - 3,
             2..=4 => rng.between(0, 6) as i64 - 3,

@@ -10,7 +10,7 @@ use borrow.Author.Needs.{needs}
 use Rattle.numbers.specs.Tests.{all}
 use Rattle.rules.specs.Month.{volumeOk}
 use Rattle.month.proofs.ScanLaws.{all-more, all-end}
-use Rattle.month.proofs.BitLaws.{wide, wide-exact}
+use Rattle.month.proofs.BitLaws.{exact32}
 use Rattle.month.proofs.ranges.volumes_ok.Statement.{statement}
 use Rattle.month.proofs.ranges.volumes_ok.Tie as tie
 
@@ -23,18 +23,17 @@ abbrev μ-loop : tie.MeasureT-loop
 loop-holds : tie.Need-loop-holds Inv-loop μ-loop
 loop-holds c = (omega arith, refl)
 
-mul-magnitude : tie.Need-mul-magnitude Inv-loop μ-loop
-mul-magnitude c = search needs
+mul-size : tie.Need-mul-size Inv-loop μ-loop
+mul-size c = search needs
 
-shared-slice-copy-out-magnitude : tie.Need-shared-slice-copy-out-magnitude Inv-loop μ-loop
-shared-slice-copy-out-magnitude c = search needs
+shared-slice-copy-out-size : tie.Need-shared-slice-copy-out-size Inv-loop μ-loop
+shared-slice-copy-out-size c = search needs
 
-cast-magnitude : tie.Need-cast-magnitude Inv-loop μ-loop
-cast-magnitude c =
-    wide (getD (c .before .before .before .args .volumes .now) (c .before .before .loop .i) (pos 0)) (record { sfits = c .magnitude-arg .given })
+size-requires : tie.Need-size-requires Inv-loop μ-loop
+size-requires c κs = search needs
 
-magnitude-requires : tie.Need-magnitude-requires Inv-loop μ-loop
-magnitude-requires c κs = search needs
+cast-ok : tie.Need-cast-ok Inv-loop μ-loop
+cast-ok c = search needs
 
 add-i : tie.Need-add-i Inv-loop μ-loop
 add-i c = search needs
@@ -46,8 +45,8 @@ loop-again : tie.Need-loop-again Inv-loop μ-loop
 loop-again c =
     let at = c .before .before .before .loop in
     let volumes : List ℤ = c .before .before .before .before .args .volumes .now in
-    let size : c .magnitude .result ≡ natAbs (getD volumes (at .i) (pos 0)) =
-    c .magnitude .ensures ∙ ap natAbs (wide-exact (getD volumes (at .i) (pos 0)) (record { sfits = c .before .magnitude-arg .given })) in
+    let size : c .size .result ≡ natAbs (getD volumes (at .i) (pos 0)) =
+    c .size .ensures ∙ ap natAbs (exact32 (getD volumes (at .i) (pos 0)) (c .before .size-arg .given)) in
     (search needs, rw size (all-more volumeOk volumes (at .ok) (at .i) (pos 0) (c .before .before .loop-test .taken) (at .inv .1)))
 
 returns : tie.Need-returns Inv-loop μ-loop
@@ -62,10 +61,10 @@ volumes-ok-spec =
     Inv-loop
     μ-loop
     loop-holds
-    mul-magnitude
-    shared-slice-copy-out-magnitude
-    cast-magnitude
-    magnitude-requires
+    mul-size
+    shared-slice-copy-out-size
+    size-requires
+    cast-ok
     add-i
     loop-less
     loop-again

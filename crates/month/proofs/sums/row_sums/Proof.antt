@@ -6,7 +6,7 @@ use lib.IntN.{natAbs}
 use lib.ListN.{length}
 use Rattle.numbers.specs.Sums.{sum}
 use Rattle.month.specs.Rows.{figureAt, firstWeighted, firstWeights}
-use Rattle.month.proofs.BitLaws.{wide, wide-exact}
+use Rattle.month.proofs.BitLaws.{exact32}
 use Rattle.month.proofs.RowLaws.{HourPriced, hour-priced}
 use borrow.Author.Needs.{needs}
 use Rattle.month.proofs.sums.row_sums.Statement.{statement}
@@ -23,22 +23,20 @@ loop-holds : tie.Need-loop-holds Inv-loop μ-loop
 unfolding firstWeighted firstWeights sum
 loop-holds c = (omega arith, refl, refl)
 
-add-magnitude : tie.Need-add-magnitude Inv-loop μ-loop
-add-magnitude c = search needs
+add-size : tie.Need-add-size Inv-loop μ-loop
+add-size c = search needs
 
-mul-magnitude : tie.Need-mul-magnitude Inv-loop μ-loop
-mul-magnitude c = search needs
+mul-size : tie.Need-mul-size Inv-loop μ-loop
+mul-size c = search needs
 
-shared-slice-copy-out-magnitude : tie.Need-shared-slice-copy-out-magnitude Inv-loop μ-loop
-shared-slice-copy-out-magnitude c = search needs
+shared-slice-copy-out-size : tie.Need-shared-slice-copy-out-size Inv-loop μ-loop
+shared-slice-copy-out-size c = search needs
 
-cast-magnitude : tie.Need-cast-magnitude Inv-loop μ-loop
-cast-magnitude c =
-    let at = c .before .before in
-    wide (figureAt (at .before .before .args .imbalance .now) (at .before .before .args .at) (at .loop .h)) (record { sfits = c .magnitude-arg .given })
+size-requires : tie.Need-size-requires Inv-loop μ-loop
+size-requires c κs = search needs
 
-magnitude-requires : tie.Need-magnitude-requires Inv-loop μ-loop
-magnitude-requires c κs = search needs
+cast-weight : tie.Need-cast-weight Inv-loop μ-loop
+cast-weight c = search needs
 
 mul-weighted : tie.Need-mul-weighted Inv-loop μ-loop
 mul-weighted c = search needs
@@ -46,7 +44,7 @@ mul-weighted c = search needs
 shared-slice-read-weighted : tie.Need-shared-slice-read-weighted Inv-loop μ-loop
 shared-slice-read-weighted c = search needs
 
--- what an hour of the row adds, from the result of `magnitude`
+-- what an hour of the row adds, from the result of `size`
 module _ (c : tie.After-shared-slice-known2 Inv-loop μ-loop) where
   abbrev here : tie.At-loop Inv-loop μ-loop
   here = c .before .before .before .before
@@ -55,12 +53,12 @@ module _ (c : tie.After-shared-slice-known2 Inv-loop μ-loop) where
   asked = here .before .before
 
   turn : HourPriced (asked .args .prices .now) (asked .args .imbalance .now) (asked .args .at) (here .loop .h)
-      (c .before .magnitude .result) (here .loop .weighted) (here .loop .weights)
+      (c .before .size .result) (here .loop .weighted) (here .loop .weights)
   turn =
       hour-priced (asked .args .prices .now) (asked .args .imbalance .now) (asked .args .at) (here .loop .h)
       (asked .pre)
       (c .before .before .before .loop-test .taken)
-      (c .before .magnitude .ensures ∙ ap natAbs (wide-exact (figureAt (asked .args .imbalance .now) (asked .args .at) (here .loop .h)) (record { sfits = c .before .before .magnitude-arg .given })))
+      (c .before .size .ensures ∙ ap natAbs (exact32 (figureAt (asked .args .imbalance .now) (asked .args .at) (here .loop .h)) (c .before .before .size-arg .given)))
       (here .loop .inv .1)
       (here .loop .inv .2)
 
@@ -97,11 +95,11 @@ row-sums-spec =
     Inv-loop
     μ-loop
     loop-holds
-    add-magnitude
-    mul-magnitude
-    shared-slice-copy-out-magnitude
-    cast-magnitude
-    magnitude-requires
+    add-size
+    mul-size
+    shared-slice-copy-out-size
+    size-requires
+    cast-weight
     mul-weighted
     shared-slice-read-weighted
     cast-weighted
