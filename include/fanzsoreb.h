@@ -15,7 +15,7 @@
  *   byte 4           kind 7, coefficient R in hundredths, 0 to 1,000
  *   byte 8           kind 8, tolerance amount TM in kWh, 0 to 200,000,000
  *   byte 12 + 20 n   entry n, five words: kind 1, party; kind 2, day; kind 3, type in bits 0-7, counterparty in bits
- *                    8-23, status in bits 24-25; kind 4, the amount's low 28 bits; kind 5, its next 12 bits
+ *                    8-23, status in bits 24-25; kind 4, the amount's low 28 bits; kind 5, its next 16 bits
  * It has room for (length - 12) / 20 entries, rounded down, and for 3,072 at most, which is 61,452 bytes. The bytes
  * after its last entry may have any values, no answer depends on them; those after the first 61,452 are not read or
  * written. A length that is no multiple of 4 is no book: fanzsoreb_is_book gives 0, every other call on a book
@@ -47,9 +47,9 @@
 extern "C" {
 #endif
 
-/* 1.1.1: major x 10,000 + minor x 100 + patch. A changed struct or signature raises the major number, a new call the
+/* 1.1.2: major x 10,000 + minor x 100 + patch. A changed struct or signature raises the major number, a new call the
  * minor one, any other change the patch. */
-#define FANZSOREB_VERSION 10101
+#define FANZSOREB_VERSION 10102
 
 #define FANZSOREB_MOST_ENTRIES 3072      /* of a book */
 #define FANZSOREB_BOOK_BYTES 61452       /* of a book with room for as many, 12 + 20 x 3,072 */
@@ -67,7 +67,7 @@ enum fanzsoreb_cause {
     FANZSOREB_BAD_TYPE = 5,         /* type outside 1 to 20 */
     FANZSOREB_BAD_COUNTERPARTY = 6, /* not 0 outside type 6; in type 6 above 999 or the party itself. There 0 is the
                                        System Operator, an export */
-    FANZSOREB_BAD_AMOUNT = 7,       /* above 10^9 kWh for types 1 to 16, above 10^12 kurus for 17 to 20 */
+    FANZSOREB_BAD_AMOUNT = 7,       /* above 10^9 kWh for types 1 to 16, above 10^13 kurus for 17 to 20 */
     FANZSOREB_DAY_CLOSED = 8,       /* a second control of a day; posting or withdrawing a standing bilateral sale,
                                        counterparty above 0, of a day that was controlled */
     FANZSOREB_NO_ROOM = 9,          /* no entry free */
@@ -77,7 +77,10 @@ enum fanzsoreb_cause {
     FANZSOREB_BAD_FIGURE = 12       /* another figure outside its range */
 };
 
-/* Entry types: 1 to 16 are volumes in kWh, 0 to 10^9; 17 to 20 are money in kurus, 0 to 10^12. */
+/* Entry types: 1 to 16 are volumes in kWh, 0 to 10^9; 17 to 20 are money in kurus, 0 to 10^13. Before version 1.1.2
+ * money was 0 to 10^12, and a kind 5 word had 12 bits: such a copy answers 1 to a book with more money in an entry; of
+ * a day file with more it answers 2 if a kind 5 word has one of the bits 12 to 15, otherwise 7 for the line. Books and
+ * files that it takes are read as before, with the same figures. */
 enum fanzsoreb_type {
     FANZSOREB_DAY_AHEAD_SALE = 1,
     FANZSOREB_INTRADAY_SALE = 2,
@@ -150,7 +153,7 @@ uint32_t fanzsoreb_open(uint8_t *book, size_t length, uint32_t coefficient, uint
 uint32_t fanzsoreb_open_default(uint8_t *book, size_t length);
 
 /* Appends one standing entry; its number, counted from 0. Party 1 to 999; day 0 to 36,524; type 1 to 20; counterparty
- * 0 outside type 6, in type 6 0 to 999 and not the party; amount 0 to 10^9 kWh for types 1 to 16, 0 to 10^12 kurus
+ * 0 outside type 6, in type 6 0 to 999 and not the party; amount 0 to 10^9 kWh for types 1 to 16, 0 to 10^13 kurus
  * for 17 to 20. Changes the 20 bytes after the last entry, and the number of entries. Causes: 1, 3, 4, 5, 6, 7, 8
  * (type 6, counterparty above 0, on a closed day), 9. Each call checks the whole book: for many lines read a day
  * file. */
@@ -241,8 +244,9 @@ typedef struct {
 #define FANZSOREB_SUPPLIER { 0, 0, 0, 0, 0, 0, 0, 1, { { 0, 0 }, { 0, 0 }, { 0, 0 } }, 0, 0, 0, 0, 0, 1 }
 
 /* The collateral of a case on a book, in kurus: each item, each division rounded up, and the total, the larger of
- * margin and trading + imbalance + risk + YEK, 8,854,500,000,000,000 at most. The figures are those of
- * fanzsoreb_case, in its order and ranges. Causes: 1, 3, 4, 12 (another figure outside its range). Changes nothing. */
+ * margin and trading + imbalance + risk + YEK, 77,974,500,000,000,000 at most (a double holds every whole number to
+ * 2^53 only, 9,007,199,254,740,992). The figures are those of fanzsoreb_case, in its order and ranges. Causes: 1, 3, 4,
+ * 12 (another figure outside its range). Changes nothing. */
 fanzsoreb_collateral_answer fanzsoreb_collateral(
     const uint8_t *book, size_t length, uint32_t party, uint32_t day, uint32_t licence, uint64_t capacity,
     uint32_t nonbusiness, uint32_t holiday, uint32_t defaults, uint32_t responsible, uint64_t aosmf1, int64_t aedm1,

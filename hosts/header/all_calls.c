@@ -57,6 +57,7 @@ static void at_offset(size_t offset)
     is_book(offset);
     opens(offset);
     posts(offset);
+    larger_money(offset);
     posts_refused(offset);
     withdraws(offset);
     reads(offset);
@@ -74,6 +75,8 @@ static void at_offset(size_t offset)
     repeated_pair(offset);
     closed_day(offset);
     reads_a_file(offset);
+    files_of_larger_money(offset);
+    largest_trading(offset);
     files_refused(offset);
 }
 

@@ -87,11 +87,37 @@ static void posts(size_t offset)
     put(13, 0x100003E7); /* 999 */
     put(14, 0x20008EAC); /* 36,524 */
     put(15, 0x30000011);
-    put(16, 0x44A51000); /* 10^12 = 3,725 x 2^28 + 77,926,400 */
-    put(17, 0x50000E8D);
-    p = fanzsoreb_post(book, lent, 999, 36524, FANZSOREB_DAY_AHEAD_PURCHASE_MONEY, 0, 1000000000000);
+    put(16, 0x4E72A000); /* 10^13 = 37,252 x 2^28 + 242,393,088 */
+    put(17, 0x50009184);
+    p = fanzsoreb_post(book, lent, 999, 36524, FANZSOREB_DAY_AHEAD_PURCHASE_MONEY, 0, 10000000000000);
     CHECK(p.answer == FANZSOREB_DONE && p.number == 2);
     CHECK(as_expected());
+}
+
+/* An entry of party 1 and day 0 whose kind 3 and kind 5 words are these: bits 12 to 15 of kind 5 are an amount's, of
+ * money alone, bits 16 to 27 are spare (document 02, T-06). */
+static int holds(uint32_t figures, uint32_t high)
+{
+    store(book, 5, figures);
+    store(book, 7, high);
+    return (int)fanzsoreb_is_book(book, lent);
+}
+
+static void larger_money(size_t offset)
+{
+    uint32_t type, bit;
+    fresh(offset);
+    for (type = 17; type <= 20; type++) {
+        CHECK(post(1, 0, type, 0, 10000000000000) == FANZSOREB_DONE);
+        REFUSED(post(1, 0, type, 0, 10000000000001), FANZSOREB_BAD_AMOUNT);
+        CHECK(fanzsoreb_entry(book, lent, type - 17).amount == 10000000000000);
+    }
+    CHECK(holds(0x30000011, 0x50009184) == 1 && holds(0x30000011, 0x50009185) == 0);
+    store(book, 6, 0x40000000);
+    for (bit = 12; bit <= 27; bit++) {
+        CHECK(holds(0x30000014, 0x50000000 | (uint32_t)1 << bit) == (bit <= 15));
+        CHECK(holds(0x30000001, 0x50000000 | (uint32_t)1 << bit) == 0);
+    }
 }
 
 static void posts_refused(size_t offset)
@@ -106,7 +132,8 @@ static void posts_refused(size_t offset)
     REFUSED(post(1, 0, FANZSOREB_BILATERAL_SALE, 1, 0), FANZSOREB_BAD_COUNTERPARTY);
     REFUSED(post(1, 0, FANZSOREB_BILATERAL_SALE, 1000, 0), FANZSOREB_BAD_COUNTERPARTY);
     REFUSED(post(1, 0, FANZSOREB_IMPORT_NOTIFICATION, 0, 1000000001), FANZSOREB_BAD_AMOUNT);
-    REFUSED(post(1, 0, FANZSOREB_INTRADAY_SALE_MONEY, 0, 1000000000001), FANZSOREB_BAD_AMOUNT);
+    REFUSED(post(1, 0, FANZSOREB_IMPORT_NOTIFICATION, 0, 1000000000000), FANZSOREB_BAD_AMOUNT);
+    REFUSED(post(1, 0, FANZSOREB_INTRADAY_SALE_MONEY, 0, 10000000000001), FANZSOREB_BAD_AMOUNT);
     CHECK(post(1, 0, FANZSOREB_BILATERAL_SALE, 0, 1000000000) == FANZSOREB_DONE);
     CHECK(post(1, 0, FANZSOREB_BILATERAL_SALE, 999, 0) == FANZSOREB_DONE);
     lent = FANZSOREB_BOOK_BYTES - 2;

@@ -117,6 +117,51 @@ static uint32_t changed(size_t offset, size_t i, uint32_t word)
     return file_cause(40);
 }
 
+/* Money of 10^13 in a line, a kurus more, and each bit of a kind 5 word from 12 on: 16 to 27 are spare. */
+static void files_of_larger_money(size_t offset)
+{
+    uint32_t bit;
+    fresh(offset);
+    sample(offset ^ 1);
+    store(file, 5, 0x30000014);
+    store(file, 6, 0x4E72A000);
+    store(file, 7, 0x50009184);
+    CHECK(file_cause(40) == FANZSOREB_DONE && fanzsoreb_entry(book, lent, 1).amount == 10000000000000);
+    store(file, 6, 0x4E72A001);
+    REFUSED(file_cause(40), FANZSOREB_BAD_AMOUNT);
+    for (bit = 12; bit <= 27; bit++) {
+        uint32_t high = 0x50000000 | (uint32_t)1 << bit;
+        sample(offset ^ 1);
+        store(file, 5, 0x30000014);
+        store(file, 7, high);
+        CHECK(file_cause(40) == (uint32_t)(bit <= 15 ? FANZSOREB_DONE : FANZSOREB_BAD_FILE));
+        REFUSED(changed(offset, 4, high), (uint32_t)(bit <= 15 ? FANZSOREB_BAD_AMOUNT : FANZSOREB_BAD_FILE));
+    }
+}
+
+/* 3,072 purchases of 10^13 on day 99, read at once: x 50 x 4 / 80. */
+static void largest_trading(size_t offset)
+{
+    fanzsoreb_case c = FANZSOREB_SUPPLIER;
+    fanzsoreb_collateral_answer a;
+    size_t i;
+    fresh(offset);
+    file = file_bytes + (offset ^ 1);
+    store(file, 0, 0x1C000001);
+    store(file, 1, 0x20000063);
+    for (i = 0; i < FANZSOREB_MOST_ENTRIES; i++) {
+        store(file, 2 + 3 * i, 0x30000011);
+        store(file, 3 + 3 * i, 0x4E72A000);
+        store(file, 4 + 3 * i, 0x50009184);
+    }
+    CHECK(file_cause(4 * (2 + 3 * FANZSOREB_MOST_ENTRIES)) == FANZSOREB_DONE);
+    c.party = 1;
+    c.day = 100;
+    c.defaults = 30;
+    a = fanzsoreb_collateral_of(book, lent, &c);
+    CHECK(a.answer == FANZSOREB_DONE && a.trading == 76800000000000000 && a.total == 76800000000000000);
+}
+
 static void files_refused(size_t offset)
 {
     fresh(offset);

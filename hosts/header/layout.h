@@ -14,7 +14,7 @@
     HELD(type##_##field, offsetof(type, field) == (place) && sizeof(((type *)0)->field) == (bytes))
 #define VALUE(name, value) HELD(name##_value, (name) == (value))
 
-VALUE(FANZSOREB_VERSION, 10101);
+VALUE(FANZSOREB_VERSION, 10102);
 VALUE(FANZSOREB_MOST_ENTRIES, 3072);
 VALUE(FANZSOREB_BOOK_BYTES, 4 * (3 + 5 * 3072));
 VALUE(FANZSOREB_MOST_FILE_BYTES, 65536);

@@ -35,12 +35,12 @@ module _ (c : Case) (ws : List ℕ) (b : isBook ws ≡ true) (f : figuresOk c �
   unfolding quarters
   quarters-is = rw (← ek) eq
 
-  pub weighted-fits : d * (20 + c .trading .defaults) ≤ 153600000000000000
+  pub weighted-fits : d * (20 + c .trading .defaults) ≤ 1536000000000000000
   weighted-fits =
       let r = case-ranges c f in
       rw debt-is (mul-le-mul {m₂ = 50} (debt-sum (entries ws) (book-facts ws b .legals) (few-entries ws b) c) (omega arith))
 
-  pub trading-fits : d * (20 + c .trading .defaults) * q ≤ 614400000000000000
+  pub trading-fits : d * (20 + c .trading .defaults) * q ≤ 6144000000000000000
   trading-fits = rw (debt-is, quarters-is) (trading-product c (case-ranges c f) (entries ws) (book-facts ws b .legals) (few-entries ws b))
 
   pub trading-is : {r : ℕ} → r ≡ roundUp (d * (20 + c .trading .defaults) * q) 80 → r ≡ trading c (entries ws)
@@ -54,7 +54,7 @@ module _ (c : Case) (ws : List ℕ) (b : isBook ws ≡ true) (f : figuresOk c �
   unfolding totalOf
   total-is = rw (el, em, et, ei, er, ey)
 
-  pub total-fits : l + i + r + y ≤ 8854500000000000
+  pub total-fits : l + i + r + y ≤ 77974500000000000
   total-fits = rw total-is (total-limit c (case-ranges c f) (entries ws) (book-facts ws b .legals) (few-entries ws b))
 
   pub items-are : record { answer = 0; margin = m; trading = t; imbalance = i; risk = r; yek = y; total = l + i + r + y } ≡ collateralOf c (entries ws)

@@ -1,6 +1,6 @@
 -- Worked figures of 01, 'The words' (opening), 'Entry types' (posts, withdrawals), 'Control of a day' (closed days) and 'Why a call comes back':
 -- each cause of each call on a book, the lowest of two, the room to its last place, and the words that each call leaves.
--- Words are written by their bits: R 150 is 96, 998 is 3E6, 999 is 3E7, day 9,000 is 2328, day 36,524 is 8EAC; 10^9 and 10^12 as in WordFigures.
+-- Words are written by their bits: R 150 is 96, 998 is 3E6, 999 is 3E7, day 9,000 is 2328, day 36,524 is 8EAC; 10^9 and 10^13 as in WordFigures.
 use mathlib.Core.Bool.{Bool, true, not}
 use mathlib.Core.List.{List, [], _∷_, _++_, map}
 use mathlib.Core.Path.{_≡_, refl}
@@ -52,12 +52,12 @@ allAnswers (p ∷ ps) = p .cause ∷ p .figures .number ∷ allAnswers ps
 abbrev opened : ℕ → List ℕ
 opened lent = openWords (replicate lent 7) 150 9
 
--- two posts: money of 10^12 of party 999 on the last day, a sale of 10^9 by 998 to 999
+-- two posts: money of 10^13 of party 999 on the last day, a sale of 10^9 by 998 to 999
 abbrev money : Key
 money = keyOf 999 36524 20 0
 
 abbrev moneyWords : List ℕ
-moneyWords = 0x100003E7 ∷ 0x20008EAC ∷ 0x30000014 ∷ 0x44A51000 ∷ 0x50000E8D ∷ []
+moneyWords = 0x100003E7 ∷ 0x20008EAC ∷ 0x30000014 ∷ 0x4E72A000 ∷ 0x50009184 ∷ []
 
 abbrev toLast : Key
 toLast = keyOf 998 9000 6 999
@@ -106,7 +106,7 @@ past = set (usedWords 150 9 (recordOf (keyOf 0 9000 21 0) 0 0 ∷ recordOf (keyO
 abbrev calls : List Call
 calls =
     post (keyOf 0 9000 1 0) 5
-    ∷ post money 1000000000000
+    ∷ post money 10000000000000
     ∷ withdraw 0
     ∷ withdraw 0
     ∷ post plain 1000000001
@@ -138,8 +138,8 @@ bookFigures =
     ∷ sameNumbers (openDefaultWords (5 ∷ 6 ∷ 7 ∷ 8 ∷ 9 ∷ [])) (0x60000000 ∷ 0x70000069 ∷ 0x8007A120 ∷ 8 ∷ 9 ∷ [])
     ∷ sameNumbers (openDefaultWords (5 ∷ 6 ∷ [])) (5 ∷ 6 ∷ [])
     -- a post is answered its number and stored after the entries; words past it stay
-    ∷ postIs (opened 13) money 1000000000000 0 0
-    ∷ postLeaves (opened 13) money 1000000000000 one
+    ∷ postIs (opened 13) money 10000000000000 0 0
+    ∷ postLeaves (opened 13) money 10000000000000 one
     ∷ postIs one toLast 1000000000 0 1
     ∷ postLeaves one toLast 1000000000 both
     -- the room to its last place, and one more: 7 and 8 words, 12 words, 17 words
@@ -201,7 +201,7 @@ bookFigures =
     ∷ countIs noBook 1 0
     -- one entry by its number
     ∷ sameNumbers (fields (entryAt both 1)) (998 ∷ 9000 ∷ 6 ∷ 999 ∷ 0 ∷ 1000000000 ∷ [])
-    ∷ sameNumbers (readFields (readAnswer both 0)) (0 ∷ 999 ∷ 36524 ∷ 20 ∷ 0 ∷ 0 ∷ 1000000000000 ∷ [])
+    ∷ sameNumbers (readFields (readAnswer both 0)) (0 ∷ 999 ∷ 36524 ∷ 20 ∷ 0 ∷ 0 ∷ 10000000000000 ∷ [])
     ∷ sameNumbers (readFields (readAnswer both 1)) (0 ∷ 998 ∷ 9000 ∷ 6 ∷ 999 ∷ 0 ∷ 1000000000 ∷ [])
     ∷ sameNumbers (readFields (readAnswer shut 1)) (0 ∷ 1 ∷ 9000 ∷ 6 ∷ 3 ∷ 2 ∷ 51 ∷ [])
     ∷ sameNumbers (readFields (readAnswer shut 3)) (0 ∷ 0 ∷ 9000 ∷ 21 ∷ 0 ∷ 0 ∷ 0 ∷ [])
@@ -213,7 +213,7 @@ bookFigures =
     ∷ sameNumbers (allAnswers (bookAnswers (opened 13) calls)) callAnswers
     ∷ sameNumbers (bookAfter (opened 13) calls) (set both 5 0x31000014)
     ∷ sameNumbers (allAnswers (ledgerAnswers 13 calls)) callAnswers
-    ∷ sameNumbers (allFields (ledgerAfter 13 calls)) (999 ∷ 36524 ∷ 20 ∷ 0 ∷ 1 ∷ 1000000000000 ∷ 998 ∷ 9000 ∷ 6 ∷ 999 ∷ 0 ∷ 1000000000 ∷ [])
+    ∷ sameNumbers (allFields (ledgerAfter 13 calls)) (999 ∷ 36524 ∷ 20 ∷ 0 ∷ 1 ∷ 10000000000000 ∷ 998 ∷ 9000 ∷ 6 ∷ 999 ∷ 0 ∷ 1000000000 ∷ [])
     ∷ []
 
 pub bookFigures-hold : every bookFigures ≡ true

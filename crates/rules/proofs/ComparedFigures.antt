@@ -12,11 +12,11 @@ use Rattle.rules.specs.Ledger.{post}
 use Rattle.rules.specs.Compared.{AlikeCalls, amounts, NoWorse, SameWhereNamed, Cheaper}
 use Rattle.rules.proofs.Worked.{minus, tables, computed}
 
--- amounts to 10^9 of types 1 to 16, to 10^12 of types 17 to 20
+-- amounts to 10^9 of types 1 to 16, to 10^13 of types 17 to 20
 pub volumes-alike : (k : Key) (a b : ℕ) → 1 ≤ k .type → k .type ≤ 16 → a ≤ 1000000000 → b ≤ 1000000000 → AlikeCalls (post k a) (post k b)
 volumes-alike k a b low high h g = amounts (inl (low, high, h)) (inl (low, high, g))
 
-pub moneys-alike : (k : Key) (a b : ℕ) → 17 ≤ k .type → k .type ≤ 20 → a ≤ 1000000000000 → b ≤ 1000000000000 → AlikeCalls (post k a) (post k b)
+pub moneys-alike : (k : Key) (a b : ℕ) → 17 ≤ k .type → k .type ≤ 20 → a ≤ 10000000000000 → b ≤ 10000000000000 → AlikeCalls (post k a) (post k b)
 moneys-alike k a b low high h g = amounts (inr (low, high, h)) (inr (low, high, g))
 
 module _ (p d a b : ℕ) where

@@ -81,13 +81,14 @@ entryFigures =
     ∷ causeIs 7 9000 6 7 5 6
     ∷ causeIs 7 9000 6 6 5 0
     ∷ causeIs 999 9000 6 999 5 6
-    -- amounts are 0 to 10^9 for types 1 to 16, 0 to 10^12 for 17 to 20
+    -- amounts are 0 to 10^9 for types 1 to 16, 0 to 10^13 for 17 to 20
     ∷ causesAre volumes 0 0 0
     ∷ causesAre volumes 0 1000000000 0
     ∷ causesAre volumes 0 1000000001 7
+    ∷ causesAre volumes 0 1000000000000 7
     ∷ causesAre moneys 0 0 0
-    ∷ causesAre moneys 0 1000000000000 0
-    ∷ causesAre moneys 0 1000000000001 7
+    ∷ causesAre moneys 0 10000000000000 0
+    ∷ causesAre moneys 0 10000000000001 7
     -- the lowest cause wins: each with all the later ones
     ∷ causeIs 0 36525 0 1 1000000001 3
     ∷ causeIs 1 36525 0 1 1000000001 4

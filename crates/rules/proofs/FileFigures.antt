@@ -2,9 +2,9 @@
 -- Files are written as words by that section and turned into bytes by Worked's `bytes`; books, before and after, as words by 01, 'The words'.
 -- The expected cause is the number of 01, 'Why a call comes back', for the first thing that is wrong in the file.
 use mathlib.Core.Bool.{Bool, true, false, not, _&&_}
-use mathlib.Core.List.{List, [], _∷_, _++_}
+use mathlib.Core.List.{List, [], _∷_, _++_, map}
 use mathlib.Core.Path.{_≡_, refl}
-use Prim.Native.Nat.{ℕ, zero, suc, _+_, _*_}
+use Prim.Native.Nat.{ℕ, _+_, _*_}
 use lib.Dec.{eqb}
 use lib.ListN.{length, take, set}
 use Rattle.numbers.specs.Tests.{every}
@@ -46,6 +46,10 @@ taken ps n = answerIs (page [] 50) (file ps) 0 n
 -- a block of party 1 and day 5 with one line of these words
 abbrev oneLine : ℕ → ℕ → ℕ → List (List ℕ)
 oneLine w x y = head 1 1 5 ∷ (w ∷ x ∷ y ∷ []) ∷ []
+
+-- a kind 5 word with each of the bits 12 to 15
+abbrev highBits : List ℕ
+highBits = 0x50001000 ∷ 0x50002000 ∷ 0x50004000 ∷ 0x50008000 ∷ []
 
 -- Cause 2: length, kinds, spare or status bits, ending
 pub fileShapes : List Bool
@@ -97,11 +101,14 @@ fileShapes =
     ∷ refused 2 (oneLine 0x32000206 0x40000007 0x50000000)
     ∷ refused 2 (oneLine 0x34000001 0x40000007 0x50000000)
     ∷ refused 2 (oneLine 0x38000001 0x40000007 0x50000000)
-    -- spare bits of kind 5, bits 12 to 27
-    ∷ refused 2 (oneLine 0x30000001 0x40000007 0x50001000)
-    ∷ refused 2 (oneLine 0x30000001 0x40000007 0x50002000)
-    ∷ refused 2 (oneLine 0x30000001 0x40000007 0x50004000)
-    ∷ refused 2 (oneLine 0x30000001 0x40000007 0x50008000)
+    -- bits 12 to 15 of kind 5 are an amount's: of money they are taken, a volume is too large, and 3 to 6 come first
+    ∷ every (map (λ y. taken (oneLine 0x30000014 0x40000007 y) 1) highBits)
+    ∷ every (map (λ y. refused 7 (oneLine 0x30000001 0x40000007 y)) highBits)
+    ∷ refused 3 (head 0 1 5 ∷ (0x30000001 ∷ 0x40000007 ∷ 0x50001000 ∷ []) ∷ [])
+    ∷ refused 4 (head 1 1 36525 ∷ (0x30000001 ∷ 0x40000007 ∷ 0x50001000 ∷ []) ∷ [])
+    ∷ refused 5 (oneLine 0x30000015 0x40000007 0x50001000)
+    ∷ refused 6 (oneLine 0x30000201 0x40000007 0x50001000)
+    -- spare bits of kind 5, bits 16 to 27
     ∷ refused 2 (oneLine 0x30000001 0x40000007 0x50010000)
     ∷ refused 2 (oneLine 0x30000001 0x40000007 0x50020000)
     ∷ refused 2 (oneLine 0x30000001 0x40000007 0x50040000)
@@ -119,7 +126,7 @@ fileShapes =
     ∷ refused 4 ((0x10000001 ∷ 0x2FFFFFFF ∷ []) ∷ [])
     ∷ refused 5 (oneLine 0x300000FF 0x40000007 0x50000000)
     ∷ refused 6 (oneLine 0x30FFFF06 0x40000007 0x50000000)
-    ∷ refused 7 (oneLine 0x30000001 0x4FFFFFFF 0x50000FFF)
+    ∷ refused 7 (oneLine 0x30000001 0x4FFFFFFF 0x5000FFFF)
     -- the file ends inside a block's head, inside a line, and before the lines told; more lines than told
     ∷ refused 2 ((0x10000001 ∷ []) ∷ [])
     ∷ refused 2 (head 1 0 5 ∷ (0x10000001 ∷ []) ∷ [])
@@ -210,11 +217,12 @@ fileCauses =
     ∷ refused 6 (head 1 1 5 ∷ line 6 1000 7 ∷ [])
     ∷ refused 6 (head 1 1 5 ∷ line 6 1 7 ∷ [])
     ∷ refused 6 (head 1 1 5 ∷ line 6 0x8002 7 ∷ [])
-    -- amounts to 10^9, of money to 10^12
+    -- amounts to 10^9, of money to 10^13; 10^12 is too much for a volume
     ∷ taken (oneLine 0x30000010 0x4B9ACA00 0x50000003) 1
     ∷ refused 7 badAmount
-    ∷ taken (oneLine 0x30000011 0x44A51000 0x50000E8D) 1
-    ∷ refused 7 (oneLine 0x30000011 0x44A51001 0x50000E8D)
+    ∷ refused 7 (oneLine 0x30000010 0x44A51000 0x50000E8D)
+    ∷ taken (oneLine 0x30000011 0x4E72A000 0x50009184) 1
+    ∷ refused 7 (oneLine 0x30000011 0x4E72A001 0x50009184)
     -- a closed day's bilateral sale; exports, other types, other days and blocks without lines go on
     ∷ refusedIn closed 8 (file (head 3 1 5 ∷ line 6 4 7 ∷ []))
     ∷ refusedIn closed 8 (file (good ++ (head 3 2 5 ∷ line 1 0 7 ∷ line 6 4 7 ∷ [])))
@@ -269,12 +277,12 @@ filePosts =
     (file (head 1 2 5 ∷ line 6 2 700 ∷ line 12 0 9 ∷ head 7 0 5 ∷ head 999 1 36524 ∷ line 6 0 0 ∷ head 8 0 6 ∷ []))
     (page (entry 3 4 6 9 2 50 ∷ mark 4 ∷ entry 1 5 6 2 0 700 ∷ entry 1 5 12 0 0 9 ∷ entry 999 36524 6 0 0 0 ∷ []) 7)
     3
-    -- counterparty 999 and 256; an amount of 10^12 in both its words
+    -- counterparty 999 and 256; an amount of 10^13 in both its words
     ∷ posts
     []
     15
-    (file (head 258 3 36524 ∷ line 6 999 1 ∷ line 6 256 0xFFFFFFF ∷ (0x30000013 ∷ 0x44A51000 ∷ 0x50000E8D ∷ []) ∷ []))
-    (page (entry 258 36524 6 999 0 1 ∷ entry 258 36524 6 256 0 0xFFFFFFF ∷ (0x10000102 ∷ 0x20008EAC ∷ 0x30000013 ∷ 0x44A51000 ∷ 0x50000E8D ∷ []) ∷ []) 0)
+    (file (head 258 3 36524 ∷ line 6 999 1 ∷ line 6 256 0xFFFFFFF ∷ (0x30000013 ∷ 0x4E72A000 ∷ 0x50009184 ∷ []) ∷ []))
+    (page (entry 258 36524 6 999 0 1 ∷ entry 258 36524 6 256 0 0xFFFFFFF ∷ (0x10000102 ∷ 0x20008EAC ∷ 0x30000013 ∷ 0x4E72A000 ∷ 0x50009184 ∷ []) ∷ []) 0)
     3
     -- the same block twice is posted twice
     ∷ posts [] 10 (file (good ++ good)) (page (entry 1 5 1 0 0 7 ∷ entry 1 5 1 0 0 7 ∷ []) 0) 2

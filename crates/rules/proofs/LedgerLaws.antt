@@ -72,7 +72,7 @@ one-check false few own false later = refl
 
 -- check 7, of a type in range
 amount-causes : (t a : ℕ) → isType t ≡ true →
-    firstOf (causeIf (leb t 16 && ltb 1000000000 a) 7 ∷ causeIf (leb 17 t && ltb 1000000000000 a) 7 ∷ [])
+    firstOf (causeIf (leb t 16 && ltb 1000000000 a) 7 ∷ causeIf (leb 17 t && ltb 10000000000000 a) 7 ∷ [])
     ≡ firstOf (unless (leb a (amountLimit t)) 7 ∷ [])
 unfolding amountLimit
 amount-causes t a e =
@@ -82,7 +82,7 @@ amount-causes t a e =
           rw (le-leb t 16 (h .1), lt-leb 17 t (omega arith), above-not 1000000000 a, fault-unless (leb a 1000000000) 7)
       | inr m ↦
           let h = within-true 17 20 t m in
-          rw (lt-leb t 16 (omega arith), m, le-leb 17 t (h .0), above-not 1000000000000 a, fault-unless (leb a 1000000000000) 7)
+          rw (lt-leb t 16 (omega arith), m, le-leb 17 t (h .0), above-not 10000000000000 a, fault-unless (leb a 10000000000000) 7)
     ]
 
 -- a later cause counts only where the test holds

@@ -44,7 +44,7 @@ fault-amount k a e =
     ∷ []) e in
     leb-true _ _ (unless-zero _ _ (h .1 .1 .1 .1 .0))
 
-mark-amount : (r : Record) → markOk r ≡ true → r .amount ≡ 0
+pub mark-amount : (r : Record) → markOk r ≡ true → r .amount ≡ 0
 unfolding markOk
 mark-amount r e =
     let h =
@@ -402,13 +402,17 @@ module _ (c : Case) (r : CaseRanges c) where
       cond-limit (eqb (c .trading .holiday) 1 && ltb 3 (tradingDays (c .trading .nonbusiness))) (λ e. omega arith) (λ e. le-refl 4)
 
   module _ (rs : List Record) (ok : all legal rs ≡ true) (few : length rs ≤ mostEntries) where
-    pub trading-product : debt c rs * (20 + c .trading .defaults) * quarters c ≤ 614400000000000000
-    trading-product = mul-le-mul (mul-le-mul {m₂ = 50} (debt-sum rs ok few c) (omega arith)) quarters-limit
+    -- 3,072 × 10^13 × 50 × 4, which 64 bits carry, signed or not (02, T-06)
+    pub trading-product : debt c rs * (20 + c .trading .defaults) * quarters c ≤ 6144000000000000000
+    trading-product = le-trans (mul-le-mul (mul-le-mul {m₂ = 50} (debt-sum rs ok few c) (omega arith)) quarters-limit) (omega arith)
 
-    pub trading-limit : trading c rs ≤ 7680000000000000
+    pub trading-carried : debt c rs * (20 + c .trading .defaults) * quarters c < 9223372036854775808
+    trading-carried = omega (arith, trading-product)
+
+    pub trading-limit : trading c rs ≤ 76800000000000000
     unfolding trading
-    trading-limit = round-up-bound _ 80 7680000000000000 trading-product
+    trading-limit = round-up-bound _ 80 76800000000000000 trading-product
 
-    pub total-limit : totalOf c rs ≤ 8854500000000000
+    pub total-limit : totalOf c rs ≤ 77974500000000000
     unfolding totalOf
     total-limit = omega (arith, margin-limit c, trading-limit, imbalance-limit, risk-limit, yek-limit)

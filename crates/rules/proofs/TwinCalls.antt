@@ -16,9 +16,9 @@ use Rattle.rules.proofs.SumOrder.{Twins}
 use Rattle.rules.proofs.Machine.{Agree}
 
 -- an amount in range for its type passes check 7
-in-range : (t a : ℕ) → InRange t a → (leb t 16 && ltb 1000000000 a ≡ false) × (leb 17 t && ltb 1000000000000 a ≡ false)
+in-range : (t a : ℕ) → InRange t a → (leb t 16 && ltb 1000000000 a ≡ false) × (leb 17 t && ltb 10000000000000 a ≡ false)
 in-range t a (inl h) = (rw (le-leb t 16 (h .1)) (le-ltb 1000000000 a (h .2)), rw (lt-leb 17 t (omega arith)))
-in-range t a (inr h) = (rw (lt-leb t 16 (omega arith)), rw (le-leb 17 t (h .0)) (le-ltb 1000000000000 a (h .2)))
+in-range t a (inr h) = (rw (lt-leb t 16 (omega arith)), rw (le-leb 17 t (h .0)) (le-ltb 10000000000000 a (h .2)))
 
 fault-alike : (k : Key) (a b : ℕ) → InRange (k .type) a → InRange (k .type) b → ledgerFault k a ≡ ledgerFault k b
 unfolding ledgerFault

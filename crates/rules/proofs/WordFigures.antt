@@ -1,13 +1,14 @@
 -- Worked figures of 01, 'The words': each field of a word at its lowest and highest bit, what is a book and what is not, and the room of a slice.
 -- Words are written in hexadecimal by their bits: 110 is 6E, 600,000 is 927C0, 999 is 3E7, day 36,524 is 8EAC, day 9,000 is 2328,
--- 10^9 is 3B9ACA00 (low 28 bits B9ACA00, next 3), 10^12 is E8D4A51000 (low 28 bits 4A51000, next E8D).
+-- 10^9 is 3B9ACA00 (low 28 bits B9ACA00, next 3), 10^12 is E8D4A51000 (low 28 bits 4A51000, next E8D),
+-- 10^13 is 9184E72A000 (low 28 bits E72A000, next 9184).
 use mathlib.Core.Bool.{Bool, true, not}
 use mathlib.Core.List.{List, [], _∷_, _++_, map}
 use mathlib.Core.Path.{_≡_, refl}
 use Prim.Native.Nat.{ℕ}
 use lib.Dec.{eqb}
 use lib.ListN.{replicate, set, take}
-use Rattle.numbers.specs.Tests.{every}
+use Rattle.numbers.specs.Tests.{every, any}
 use Rattle.rules.specs.Entry.{Record, keyOf, recordOf, key, dayPlaces, partyPlaces}
 use Rattle.rules.specs.Words.{kindOf, valueOf, encode, decode, countOf, coefficientOf, toleranceOf, roomIn, isBook, entries, usedWords, laid, bookWords}
 use Rattle.rules.proofs.Worked.{sameNumbers, computed}
@@ -24,7 +25,7 @@ allFields (r ∷ rs) = fields r ++ allFields rs
 abbrev wordsAre : Record → List ℕ → Bool
 wordsAre r ws = every (sameNumbers (encode r) ws ∷ sameNumbers (fields (decode ws)) (fields r) ∷ [])
 
--- a cancelled sale of party 999 to 998 on the last day; a withdrawn sale of 10^12; a mark; the highest bit of each field set
+-- a cancelled sale of party 999 to 998 on the last day; a withdrawn sale of 10^13; a mark; the highest bit of each field set
 abbrev soldLast : Record
 soldLast = recordOf (keyOf 999 36524 6 998) 2 1000000000
 
@@ -32,10 +33,10 @@ abbrev soldLastWords : List ℕ
 soldLastWords = 0x100003E7 ∷ 0x20008EAC ∷ 0x3203E606 ∷ 0x4B9ACA00 ∷ 0x50000003 ∷ []
 
 abbrev paid : Record
-paid = recordOf (keyOf 1 0 20 0) 1 1000000000000
+paid = recordOf (keyOf 1 0 20 0) 1 10000000000000
 
 abbrev paidWords : List ℕ
-paidWords = 0x10000001 ∷ 0x20000000 ∷ 0x31000014 ∷ 0x44A51000 ∷ 0x50000E8D ∷ []
+paidWords = 0x10000001 ∷ 0x20000000 ∷ 0x31000014 ∷ 0x4E72A000 ∷ 0x50009184 ∷ []
 
 abbrev marked : Record
 marked = recordOf (keyOf 0 9000 21 0) 0 0
@@ -44,7 +45,7 @@ abbrev markedWords : List ℕ
 markedWords = 0x10000000 ∷ 0x20002328 ∷ 0x30000015 ∷ 0x40000000 ∷ 0x50000000 ∷ []
 
 abbrev topBits : Record
-topBits = recordOf (keyOf 0x8001 0x8001 0x81 0x8001) 3 0x8018000001
+topBits = recordOf (keyOf 0x8001 0x8001 0x81 0x8001) 3 0x80018000001
 
 -- a book of one standing day-ahead sale, and that book with one word changed
 abbrev sale : List ℕ
@@ -72,7 +73,7 @@ wordFigures =
     ∷ wordsAre soldLast soldLastWords
     ∷ wordsAre paid paidWords
     ∷ wordsAre marked markedWords
-    ∷ wordsAre topBits (0x10008001 ∷ 0x20008001 ∷ 0x33800181 ∷ 0x48000001 ∷ 0x50000801 ∷ [])
+    ∷ wordsAre topBits (0x10008001 ∷ 0x20008001 ∷ 0x33800181 ∷ 0x48000001 ∷ 0x50008001 ∷ [])
     -- a book of no entries has three words
     ∷ isBook (0x60000000 ∷ 0x7000006E ∷ 0x800927C0 ∷ [])
     ∷ isBook (0x60000000 ∷ 0x7000006E ∷ 0x800927C0 ∷ 7 ∷ [])
@@ -131,19 +132,25 @@ wordFigures =
     ∷ not (isBookWith 5 0x33000206)
     ∷ not (isBookWith 5 0x34000001)
     ∷ not (isBookWith 5 0x38000001)
-    -- amounts: 10^9 of a sale, 10^12 of money, one beyond, and with the lowest unnamed bit
+    -- amounts: 10^9 of a sale, 10^13 of money, and one beyond each; 10^12 is too much for a volume
     ∷ isBookOf 0x30000001 0x4B9ACA00 0x50000003
     ∷ not (isBookOf 0x30000001 0x4B9ACA01 0x50000003)
     ∷ not (isBookOf 0x30000001 0x40000000 0x50000004)
-    ∷ isBookOf 0x30000011 0x44A51000 0x50000E8D
-    ∷ not (isBookOf 0x30000011 0x44A51001 0x50000E8D)
-    ∷ not (isBookOf 0x30000011 0x40000000 0x50001000)
+    ∷ not (isBookOf 0x30000010 0x44A51000 0x50000E8D)
+    ∷ isBookOf 0x30000011 0x4E72A000 0x50009184
+    ∷ not (isBookOf 0x30000011 0x4E72A001 0x50009184)
+    ∷ not (isBookOf 0x30000011 0x40000000 0x50009185)
+    -- bits 12 to 15 of kind 5 are the amount's, of money alone; 16 to 27 have no name
+    ∷ every (map (isBookOf 0x30000014 0x40000000) (0x50001000 ∷ 0x50002000 ∷ 0x50004000 ∷ 0x50008000 ∷ []))
+    ∷ not (any (isBookOf 0x30000001 0x40000000) (0x50001000 ∷ 0x50002000 ∷ 0x50004000 ∷ 0x50008000 ∷ []))
+    ∷ not (any (isBookOf 0x30000014 0x40000000) (0x50010000 ∷ 0x50020000 ∷ 0x50040000 ∷ 0x50080000 ∷ 0x50100000 ∷ 0x50200000 ∷ []))
+    ∷ not (any (isBookOf 0x30000014 0x40000000) (0x50400000 ∷ 0x50800000 ∷ 0x51000000 ∷ 0x52000000 ∷ 0x54000000 ∷ 0x58000000 ∷ []))
     -- a mark instead of the sale
     ∷ isBook (take 3 sale ++ markedWords)
     -- every entry counts, words after the last do not
     ∷ isBook twoAndMore
     ∷ not (isBook (set twoAndMore 7 0x50000004))
-    ∷ not (isBook (set twoAndMore 12 0x50000E8E))
+    ∷ not (isBook (set twoAndMore 12 0x50009185))
     ∷ isBook (set twoAndMore 13 0xFFFFFFFF)
     ∷ eqb (countOf twoAndMore) 2
     ∷ eqb (coefficientOf twoAndMore) 1000

@@ -185,7 +185,7 @@ encode-decode ws h e =
 pub record NoUnnamedBits (ws : List ℕ) : Type 0 where
   pub party : valueAt ws 0 < 65536
   pub figures : valueAt ws 2 < 67108864
-  pub amount : valueAt ws 4 < 4096
+  pub amount : valueAt ws 4 < 65536
 
 pub unnamed-bits : (ws : List ℕ) → entryOk ws ≡ true → NoUnnamedBits ws
 unfolding decode
@@ -194,7 +194,7 @@ unnamed-bits ws e =
     let f = figures (valueAt ws 0) (valueAt ws 2) (valueAt ws 3) (valueAt ws 4) (b .party) (b .status) (b .amount) in
     record { party = f .0; figures = f .1; amount = f .2 }
   where
-    figures : (p v x y : ℕ) → p ≤ 999 → v / 16777216 ≤ 2 → x + y * 268435456 ≤ mostMoney → (p < 65536) × (v < 67108864) × (y < 4096)
+    figures : (p v x y : ℕ) → p ≤ 999 → v / 16777216 ≤ 2 → x + y * 268435456 ≤ mostMoney → (p < 65536) × (v < 67108864) × (y < 65536)
     figures p v x y hp hv hy = omega arith
 
 -- lists of entries

@@ -21,7 +21,7 @@ module _ {A : Type 0} (P : A → A → Type 0) where
 
 -- an amount in range for its type
 abbrev pub InRange : ℕ → ℕ → Type 0
-InRange t a = ((1 ≤ t) × (t ≤ 16) × (a ≤ 1000000000)) ⊎ ((17 ≤ t) × (t ≤ 20) × (a ≤ 1000000000000))
+InRange t a = ((1 ≤ t) × (t ≤ 16) × (a ≤ 1000000000)) ⊎ ((17 ≤ t) × (t ≤ 20) × (a ≤ 10000000000000))
 
 -- two calls alike: equal, or posts whose two amounts are both in range
 pub data AlikeCalls : Call → Call → Type 0 where

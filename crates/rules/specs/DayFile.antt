@@ -26,9 +26,9 @@ mostBytes = 65536
 abbrev pub parties : ℕ
 parties = 65536
 
--- the bits of an amount in a line's kind 5 word, 0-11
+-- the bits of an amount in a line's kind 5 word, 0-15 (02, T-06)
 abbrev pub highAmounts : ℕ
-highAmounts = 4096
+highAmounts = 65536
 
 -- a block begins with kind 1, party and number of lines, and kind 2, the day
 abbrev pub linesIn : ℕ → ℕ

@@ -49,8 +49,9 @@ partyPlaces = lastParty + 1
 abbrev pub mostVolume : ℕ
 mostVolume = 1000000000
 
+-- money, types 17-20: up to 10^13 (02, T-06)
 abbrev pub mostMoney : ℕ
-mostMoney = 1000000000000
+mostMoney = 10000000000000
 
 -- the types
 abbrev pub within : ℕ → ℕ → ℕ → Bool

@@ -51,7 +51,7 @@ outside low high x = ltb x low || ltb high x
 -- the lowest cause of 3 to 7 that holds (01, 'Entry types' and 'Why a call comes back'):
 -- party outside 1-999; day above 36,524; type outside 1-20;
 -- a counterparty outside type 6, in type 6 one above 999 or the party itself;
--- an amount above 10^9 in types 1-16, above 10^12 in types 17-20
+-- an amount above 10^9 in types 1-16, above 10^13 in types 17-20 (02, T-06)
 unfoldable pub ledgerFault : Key → ℕ → ℕ
 ledgerFault k a =
     firstOf
@@ -62,7 +62,7 @@ ledgerFault k a =
     ∷ causeIf (eqb (k .type) 6 && ltb 999 (k .counterparty)) 6
     ∷ causeIf (eqb (k .type) 6 && eqb (k .counterparty) (k .party)) 6
     ∷ causeIf (leb (k .type) 16 && ltb 1000000000 a) 7
-    ∷ causeIf (leb 17 (k .type) && ltb 1000000000000 a) 7
+    ∷ causeIf (leb 17 (k .type) && ltb 10000000000000 a) 7
     ∷ [])
 
 -- a record has this number, counted from 0, and is standing: its status is 0

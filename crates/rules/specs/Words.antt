@@ -21,7 +21,7 @@ counterparties = 65536
 abbrev pub statusUnit : ℕ
 statusUnit = 16777216
 
--- the bits of an amount: the low 28 in a kind 4 word, the next 12 in a kind 5 word
+-- the bits of an amount: the low 28 in a kind 4 word, the next 16 in a kind 5 word (02, T-06)
 abbrev pub lowAmounts : ℕ
 lowAmounts = 268435456
 

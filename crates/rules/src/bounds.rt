@@ -12,7 +12,8 @@ pub const NUMBERS: usize = 1000;
 
 pub const MOST_VOLUME: u64 = 1000000000;
 
-pub const MOST_MONEY: u64 = 1000000000000;
+// Money may be up to this (02, T-06).
+pub const MOST_MONEY: u64 = 10000000000000;
 
 // A book (01, 'The words').
 pub const MOST_ENTRIES: usize = 3072;

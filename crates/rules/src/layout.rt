@@ -34,10 +34,10 @@ pub const COUNTERPARTIES: u32 = 65536;
 
 pub const STATUS: u32 = 16777216;
 
-// An amount's low bits are the value of a kind 4 word; its next bits, in a file's kind 5 word, are below this.
+// An amount's low bits are the value of a kind 4 word; its next bits, in a file's kind 5 word, are below this (02, T-06).
 pub const LOW_AMOUNT: u64 = 268435456;
 
-pub const HIGH_AMOUNT: u32 = 4096;
+pub const HIGH_AMOUNT: u32 = 65536;
 
 // An amount that a file's line can hold is below this.
 pub const AMOUNTS: u64 = LOW_AMOUNT * (HIGH_AMOUNT as u64);

@@ -58,7 +58,7 @@ fn fault(party: u32, day: u32, kind: u32, counterparty: u32, amount: u64) -> u32
     if if kind == 6 { counterparty > 999 || counterparty == party } else { counterparty != 0 } {
         return 6;
     }
-    if amount > if kind >= 17 { 1_000_000_000_000 } else { 1_000_000_000 } {
+    if amount > if kind >= 17 { 10_000_000_000_000 } else { 1_000_000_000 } {
         return 7;
     }
     0
@@ -440,7 +440,7 @@ fn file_lines(file: &[u8]) -> Option<Vec<Entry>> {
             lines.push(Entry { party, day, kind: 0, counterparty: 0, status: 0, amount: 0 });
         }
         for _ in 0..count {
-            if at + 3 > w.len() || w[at] >> 24 != 0x30 || w[at + 1] / KIND != 4 || w[at + 2] >> 12 != 0x50000 {
+            if at + 3 > w.len() || w[at] >> 24 != 0x30 || w[at + 1] / KIND != 4 || w[at + 2] >> 16 != 0x5000 {
                 return None;
             }
             let v = w[at] % (1 << 24);

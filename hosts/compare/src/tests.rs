@@ -40,12 +40,21 @@ fn no_difference_where_there_is_none() {
 #[test]
 fn worked_figures() {
     let worked = figures(&Second);
-    assert_eq!((worked.compared, worked.failed), (122, 0));
+    assert_eq!((worked.compared, worked.failed), (171, 0));
     for slip in [
         "open_default: the old coefficient",
         "open_default: the old tolerance",
         "open_default: R and TM are swapped",
         "delivery: tender and import are added",
+        "is_book: bits above an amount are not read",
+        "is_book: money up to 10^12 only",
+        "post: the low word is cut at 27 bits",
+        "post: a high word of twelve bits",
+        "post: money up to 10^12 only",
+        "post: a kuruş above the limit",
+        "post: a volume up to 10^12",
+        "read_file: bit 16 of an amount is not spare",
+        "read_file: bit 12 of an amount is spare",
         "detected: zero too",
         "month: halves down",
         "month: a weight below zero is one less",
@@ -168,6 +177,18 @@ impl Engine for Wrong {
                 }
                 return Second.is_book(&bytes(&w));
             }
+            if self.slips("is_book: bits above an amount are not read") {
+                for word in w.iter_mut().skip(3) {
+                    if *word >> 28 == 5 {
+                        *word &= 0xF000_FFFF;
+                    }
+                }
+                return Second.is_book(&bytes(&w));
+            }
+        }
+        if right == 1 && self.slips("is_book: money up to 10^12 only") {
+            let held = decoded(book).expect("a book").entries;
+            return u32::from(held.iter().all(|e| e.amount <= 1_000_000_000_000));
         }
         if right == 0 && self.slips("is_book: bytes behind the words are not read") {
             return Second.is_book(&book[..book.len() / 4 * 4]);
@@ -210,6 +231,27 @@ impl Engine for Wrong {
         }
         if self.slips("post: the high bits of an amount are lost") && right.answer == 0 {
             rewritten(book, |w| w[7 + 5 * right.number as usize] = 0x5000_0000);
+        }
+        if self.slips("post: the low word is cut at 27 bits") && right.answer == 0 {
+            rewritten(book, |w| w[6 + 5 * right.number as usize] &= 0xF7FF_FFFF);
+        }
+        if self.slips("post: a high word of twelve bits") && right.answer == 0 {
+            rewritten(book, |w| w[7 + 5 * right.number as usize] &= 0xF000_0FFF);
+        }
+        if self.slips("post: money up to 10^12 only")
+            && right.answer == 0
+            && post.amount > 1_000_000_000_000
+        {
+            book.copy_from_slice(&before);
+            return Posted { answer: 7, number: 0 };
+        }
+        if self.slips("post: a kuruş above the limit") && right.answer == 7 {
+            let above = post.entry_type >= 17 && post.amount == second::MOST_MONEY + 1;
+            return Posted { answer: if above { 9 } else { 7 }, number: 0 };
+        }
+        if self.slips("post: a volume up to 10^12") && right.answer == 7 {
+            let within = post.entry_type <= 16 && post.amount <= 1_000_000_000_000;
+            return Posted { answer: if within { 9 } else { 7 }, number: 0 };
         }
         if self.slips("post: a closed day refuses exports too")
             && right.answer == 0
@@ -562,7 +604,7 @@ impl Engine for Wrong {
                         day: w[1] & 0x0FFF_FFFF,
                         entry_type: w[2] & 0xFF,
                         counterparty: w[2] >> 8 & 0xFFFF,
-                        amount: u64::from(w[3] & 0x0FFF_FFFF) + (u64::from(w[4] & 0xFFF) << 28),
+                        amount: u64::from(w[3] & 0x0FFF_FFFF) + (u64::from(w[4] & 0xFFFF) << 28),
                     },
                 );
             }
@@ -572,6 +614,22 @@ impl Engine for Wrong {
             let w = words(file).expect("words");
             if w.len() == 2 {
                 return FileRead { answer: 0, posted: 0 };
+            }
+        }
+        if right.answer == 2 && self.slips("read_file: bit 16 of an amount is not spare") {
+            let shown = words(file).map(|mut w| {
+                w.iter_mut().filter(|x| **x >> 28 == 5).for_each(|x| *x &= !(1 << 16));
+                bytes(&w)
+            });
+            if let Some(shown) = shown {
+                return Second.read_file(book, &shown);
+            }
+        }
+        if right.answer != 1 && self.slips("read_file: bit 12 of an amount is spare") {
+            let bit = |w: &u32| w >> 28 == 5 && w >> 12 & 0xF != 0;
+            if words(file).is_some_and(|w| w.iter().any(bit)) {
+                book.copy_from_slice(&before);
+                return FileRead { answer: 2, posted: 0 };
             }
         }
         if self.slips("read_file: a length above 65,536")
@@ -781,11 +839,13 @@ impl Wrong {
     }
 }
 
-const SLIPS: [&str; 83] = [
+const SLIPS: [&str; 92] = [
     "is_book: status 3 is allowed",
     "is_book: a cancelled export is allowed",
     "is_book: more than 3,072 entries are allowed",
     "is_book: bits above the party are not read",
+    "is_book: bits above an amount are not read",
+    "is_book: money up to 10^12 only",
     "is_book: bytes behind the words are not read",
     "open: clears the words behind",
     "open: writes on a refusal",
@@ -795,6 +855,11 @@ const SLIPS: [&str; 83] = [
     "open_default: R and TM are swapped",
     "post: reaches the book on the first call only",
     "post: the high bits of an amount are lost",
+    "post: the low word is cut at 27 bits",
+    "post: a high word of twelve bits",
+    "post: money up to 10^12 only",
+    "post: a kuruş above the limit",
+    "post: a volume up to 10^12",
     "post: a closed day refuses exports too",
     "post: a party is cut to sixteen bits",
     "post: a number on a refusal",
@@ -864,6 +929,8 @@ const SLIPS: [&str; 83] = [
     "control: counts parties, not entries",
     "read_file: the lines before a faulty one stay",
     "read_file: an empty block is not checked",
+    "read_file: bit 16 of an amount is not spare",
+    "read_file: bit 12 of an amount is spare",
     "read_file: the room before the lines",
 ];
 

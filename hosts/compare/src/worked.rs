@@ -18,6 +18,8 @@ pub fn figures<E: Engine>(engine: &E) -> Worked<'_, E> {
     let mut worked = Worked { engine, compared: 0, failed: 0 };
     worked.balances();
     worked.opened_without_figures();
+    worked.larger_money();
+    worked.largest_trading();
     worked.margins();
     worked.months();
     worked.weights();
@@ -103,6 +105,63 @@ impl<E: Engine> Worked<'_, E> {
             let book = self.default_book(&[(1, 9_000, entry_type, 0, amount)]);
             self.both("one entry, no figures", &book, (1, 9_000), balance);
         }
+    }
+
+    /// 02, T-06: money up to 10^13, which is 9184 E72A000 in a kind 5 and a kind 4 word. Bits 12 to 15 of kind 5
+    /// are its own, bits 16 to 27 are spare; volumes stay within 10^9.
+    fn larger_money(&mut self) {
+        for (entry_type, amount, answer) in [
+            (17, 1_000_000_000_001, 0),
+            (17, 10_000_000_000_000, 0),
+            (20, 10_000_000_000_000, 0),
+            (17, 10_000_000_000_001, 7),
+            (20, 10_000_000_000_001, 7),
+            (16, 1_000_000_000, 0),
+            (16, 1_000_000_001, 7),
+            (16, 1_000_000_000_000, 7),
+        ] {
+            let mut book = self.book(&[]);
+            let post = Post { party: 1, day: 99, entry_type, counterparty: 0, amount };
+            self.holds("an amount", self.engine.post(&mut book, post).answer, answer);
+        }
+        let book = self.book(&[(1, 99, 17, 0, 10_000_000_000_000)]);
+        let stated = [0x1000_0001, 0x2000_0063, 0x3000_0011, 0x4E72_A000, 0x5000_9184];
+        self.holds("the words of 10^13", &book[12..32], &bytes(&stated));
+        self.holds("10^13 read", self.engine.entry(&book, 0).amount, 10_000_000_000_000);
+        for (what, low, high, answer, is_book) in [
+            (0x3000_0011, 0x4E72_A000, 0x5000_9184, 0, 1),
+            (0x3000_0011, 0x4E72_A001, 0x5000_9184, 7, 0),
+            (0x3000_0011, 0x4000_0000, 0x5000_1000, 0, 1),
+            (0x3000_0014, 0x4000_0000, 0x5000_8000, 0, 1),
+            (0x3000_0011, 0x4000_0000, 0x5001_0000, 2, 0),
+            (0x3000_0011, 0x4000_0000, 0x5800_0000, 2, 0),
+            (0x3000_0001, 0x4000_0000, 0x5000_1000, 7, 0),
+            (0x3000_0201, 0x4000_0000, 0x5000_1000, 6, 0),
+        ] {
+            let (mut lent, mut held) = (self.book(&[]), book.clone());
+            let file = bytes(&[0x1001_0001, 0x2000_0063, what, low, high]);
+            let stated = FileRead { answer, posted: u32::from(answer == 0) };
+            self.holds("a line's amount", self.engine.read_file(&mut lent, &file), stated);
+            held[20..32].copy_from_slice(&bytes(&[what, low, high]));
+            self.holds("an entry's amount", self.engine.is_book(&held), is_book);
+        }
+    }
+
+    /// 3,072 purchases of 10^13: × 50 × 4 / 80 is 76,800,000,000,000,000; 500 × 1,000,000 × 14,900,000,000 / 100,000.
+    fn largest_trading(&mut self) {
+        let line = [0x3000_0011, 0x4E72_A000, 0x5000_9184];
+        let file = [vec![0x1C00_0001, 0x2000_0063], line.repeat(3_072)].concat();
+        let mut book = vec![0; 12 + 20 * 3_072];
+        self.holds("opening", self.engine.open(&mut book, 110, 600_000), 0);
+        let read = self.engine.read_file(&mut book, &bytes(&file));
+        self.holds("3,072 lines", read, FileRead { answer: 0, posted: 3_072 });
+        let months = [Month { aosmf: 1_000_000, aedm: -14_900_000_000 }; 3];
+        let case =
+            Case { party: 1, day: 100, defaults: 30, used: 3, rk: 500, months, ..Case::supplier() };
+        let (rt, yt) = (1_000_000_000_000_000, 100_000_000_000_000);
+        let answer = self.collateral(&book, Case { rt, yt, best: 10_000, ..case });
+        self.holds("the largest trading", answer.trading, 76_800_000_000_000_000);
+        self.holds("the largest total", answer.total, 77_974_500_000_000_000);
     }
 
     fn collateral(&mut self, book: &[u8], case: Case) -> Collateral {

@@ -10,7 +10,9 @@ pub const LAST_VOLUME_TYPE: u32 = 16;
 pub const BILATERAL_SALE: u32 = 6;
 pub const MARK: u32 = 21;
 pub const MOST_VOLUME: u64 = 1_000_000_000;
-pub const MOST_MONEY: u64 = 1_000_000_000_000;
+/// Money goes up to 10^13, and the kind 5 word carries its bits from 28 on, 16 of them (02, T-06).
+pub const MOST_MONEY: u64 = 10_000_000_000_000;
+pub const HIGH_BITS: u32 = 16;
 pub const MOST_COEFFICIENT: u32 = 1_000;
 pub const MOST_TOLERANCE: u32 = 200_000_000;
 pub const DEFAULT_COEFFICIENT: u32 = 105;
@@ -69,7 +71,7 @@ impl Entry {
         let day = field(words[1], 2, 28)?;
         let third = field(words[2], 3, 26)?;
         let low = field(words[3], 4, 28)?;
-        let high = field(words[4], 5, 12)?;
+        let high = field(words[4], 5, HIGH_BITS)?;
         let entry = Entry {
             party,
             day,

@@ -3,8 +3,8 @@
 use crate::answers::FileRead;
 use crate::balance::{day_ahead, delivery};
 use crate::book::{
-    decode, encode, fault_in, field, open_default, room, Entry, LAST_DAY, LAST_PARTY, MOST_ENTRIES,
-    STANDING,
+    decode, encode, fault_in, field, open_default, room, Entry, HIGH_BITS, LAST_DAY, LAST_PARTY,
+    MOST_ENTRIES, STANDING,
 };
 use std::collections::BTreeSet;
 
@@ -37,7 +37,7 @@ fn blocks(file: &[u8]) -> Option<Vec<Block>> {
             // 24 bits: type and counterparty; a status or spare bit is none of them.
             let what = field(left.next()?, 3, 24)?;
             let low = field(left.next()?, 4, 28)?;
-            let high = field(left.next()?, 5, 12)?;
+            let high = field(left.next()?, 5, HIGH_BITS)?;
             lines.push(Entry {
                 party,
                 day,

@@ -97,7 +97,7 @@ fn at_most_3_072_entries() {
 fn words_of_an_entry() {
     let mut words = book_with(2, 110, 600_000);
     posted(&mut words, 999, 36_524, 6, 998, 1_000_000_000);
-    posted(&mut words, 1, 0, 20, 0, 1_000_000_000_000);
+    posted(&mut words, 1, 0, 20, 0, 10_000_000_000_000);
     assert_eq!(
         words,
         [
@@ -112,12 +112,12 @@ fn words_of_an_entry() {
             0x1000_0001,
             0x2000_0000,
             0x3000_0014,
-            0x44A5_1000,
-            0x5000_0E8D,
+            0x4E72_A000,
+            0x5000_9184,
         ]
     );
     assert_eq!(entry(&words, 0).amount, 1_000_000_000);
-    assert_eq!(entry(&words, 1).amount, 1_000_000_000_000);
+    assert_eq!(entry(&words, 1).amount, 10_000_000_000_000);
     assert_eq!(entry(&words, 2), EntryRead { answer: 10, ..EntryRead::default() });
 }
 
@@ -147,7 +147,8 @@ fn entries_that_no_book_has() {
         (5, 0x4000_0206),
         (6, 0x5000_0005),
         (7, 0x5000_0004), // above 10^9
-        (7, 0x5000_1000), // a spare bit
+        (7, 0x5000_1000), // 2^40, above 10^9
+        (7, 0x5001_0000), // a spare bit
         (7, 0x6000_0000),
     ] {
         let mut words = good.clone();
@@ -219,7 +220,10 @@ fn causes_of_a_post_lowest_first() {
     post_refused(&mut words, 6, (1, 0, 6, 65_538, 0));
     post_refused(&mut words, 6, (1, 0, 5, 2, big));
     post_refused(&mut words, 7, (1, 0, 16, 0, 1_000_000_001));
-    post_refused(&mut words, 7, (1, 0, 17, 0, 1_000_000_000_001));
+    post_refused(&mut words, 7, (1, 0, 16, 0, 1_000_000_000_000));
+    post_refused(&mut words, 7, (1, 0, 17, 0, 10_000_000_000_001));
+    post_refused(&mut words, 7, (1, 0, 20, 0, 10_000_000_000_001));
+    post_refused(&mut words, 9, (1, 0, 17, 0, 10_000_000_000_000));
     post_refused(&mut words, 7, (1, 0, 6, 0, 1 << 40));
     post_refused(&mut words, 9, (1, 0, 6, 0, 1_000_000_000));
     words[0] = 0;
@@ -577,10 +581,10 @@ fn trading_factors() {
 fn largest_trading() {
     let mut words = book_with(3_072, 110, 600_000);
     for i in 0..3_072 {
-        posted(&mut words, 1, 499 - i % 30, 17, 0, 1_000_000_000_000);
+        posted(&mut words, 1, 499 - i % 30, 17, 0, 10_000_000_000_000);
     }
     let case = Case { party: 1, day: 500, nonbusiness: 29, defaults: 30, ..Case::supplier() };
-    assert_eq!(collateral(&words, &case).trading, 3_072_000_000_000_000 / 2 * 5);
+    assert_eq!(collateral(&words, &case).trading, 30_720_000_000_000_000 / 2 * 5);
 }
 
 #[test]
@@ -896,7 +900,7 @@ fn shapes_of_a_file() {
         (2, 0x3800_0001),
         (2, 0x4000_0001),
         (3, 0x5000_0001),
-        (4, 0x5000_1000),
+        (4, 0x5001_0000),
         (4, 0x5800_0000),
         (4, 0x4000_0000),
     ] {

@@ -68,7 +68,7 @@ fn drawn_record(draw: &mut Draw) -> Entry {
 }
 
 fn drawn_amount(draw: &mut Draw, entry_type: u32) -> u64 {
-    let most = if entry_type <= 16 { 1_000_000_000 } else { 1_000_000_000_000 };
+    let most = if entry_type <= 16 { 1_000_000_000 } else { 10_000_000_000_000 };
     match draw.below(6) {
         0 => 0,
         1 => most + draw.below(2),
@@ -112,7 +112,7 @@ fn lists_are_answered_as_the_ledger_answers_and_balances_keep_their_order() {
             }
             let one = drawn_record(&mut draw);
             let mut two = one;
-            let most = if one.entry_type <= 16 { 1_000_000_000 } else { 1_000_000_000_000 };
+            let most = if one.entry_type <= 16 { 1_000_000_000 } else { 10_000_000_000_000 };
             if one.amount <= most && draw.below(3) == 0 {
                 // Another legal amount; smaller sales and larger cover are drawn more often.
                 two.amount = match draw.below(4) {

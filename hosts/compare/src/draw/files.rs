@@ -28,7 +28,7 @@ fn file_words(blocks: &[Block]) -> Vec<u32> {
             let what = (line.counterparty & 0xFFFF) << 8 | line.entry_type & 0xFF;
             words.push(0x3000_0000 | what);
             words.push(0x4000_0000 | (line.amount & 0x0FFF_FFFF) as u32);
-            words.push(0x5000_0000 | (line.amount >> 28 & 0xFFF) as u32);
+            words.push(0x5000_0000 | (line.amount >> 28 & 0xFFFF) as u32);
         }
     }
     words
@@ -92,7 +92,7 @@ fn spoilt(rng: &mut Rng, mut blocks: Vec<Block>) -> Vec<u8> {
     let mut w = file_words(&blocks);
     if rng.percent(14) && !w.is_empty() {
         let place = rng.index(w.len());
-        match rng.below(10) {
+        match rng.below(11) {
             0..=2 => w[place] ^= 1 << rng.below(32),
             3 => w[place] = rng.word(),
             4 => {
@@ -108,6 +108,12 @@ fn spoilt(rng: &mut Rng, mut blocks: Vec<Block>) -> Vec<u8> {
             8 => {
                 if let Some(at) = (0..w.len()).find(|i| w[*i] >> 28 == 3) {
                     w[at] |= 1 << rng.between(24, 27);
+                }
+            }
+            9 => {
+                // A bit above the lowest twelve of an amount's next bits: 16 to 27 are spare.
+                if let Some(at) = (0..w.len()).find(|i| w[*i] >> 28 == 5) {
+                    w[at] |= 1 << rng.between(12, 27);
                 }
             }
             _ => {
@@ -147,7 +153,10 @@ fn faulty(rng: &mut Rng, block: &mut Block) {
         (3, Some(line)) => line.counterparty = rng.pick(&[block.party, 1_000, 65_535, 1]),
         (4, Some(line)) => {
             let most = if line.entry_type <= 16 { MOST_VOLUME } else { MOST_MONEY };
-            line.amount = rng.pick(&[most, most + 1, (1 << 40) - 1, 1 << 30]);
+            // 10^12 and the bits from 40 to 43 belong to money alone (02, T-06).
+            let bit = 1 << rng.between(40, 43);
+            line.amount =
+                rng.pick(&[most, most + 1, (1 << 44) - 1, 1 << 30, bit, 1_000_000_000_000]);
         }
         _ => block.party = 0,
     }

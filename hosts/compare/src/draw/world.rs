@@ -169,7 +169,9 @@ impl World {
                 near.saturating_sub(2).min(most)
             }
             16 => most - rng.below(3),
+            17 if most == MOST_MONEY => 1 << rng.below(44),
             17 => 1 << rng.below(30),
+            18 if most == MOST_MONEY => 1_000_000_000_000 + rng.below(3) - 1,
             _ => rng.between(0, most),
         }
     }

@@ -7,7 +7,7 @@ use Rattle.collateral.proofs.items.collateral_of.Statement.{statement}
 use Rattle.collateral.proofs.items.collateral_of.Tie as tie
 
 -- the sum of the items, added one by one
-sum-fits : (c : tie.After-larger) → c .larger .result + c .before .before .before .imbalance-of .result + c .before .before .risk-of .result + c .before .yek-of .result ≤ 8854500000000000
+sum-fits : (c : tie.After-larger) → c .larger .result + c .before .before .before .imbalance-of .result + c .before .before .risk-of .result + c .before .yek-of .result ≤ 77974500000000000
 sum-fits c = search total-fits
 
 margin-of-requires : tie.Need-margin-of-requires

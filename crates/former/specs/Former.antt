@@ -1,0 +1,167 @@
+-- Copies from before a change of document 02: their tests of a book and of a file, kept so that it can be stated what an older copy takes, answers and refuses.
+-- No contract cites them. Each definition is today's of the same name with the copy's figures in its tests; `present-book` and the laws beside it
+-- (proofs/CopyLaws.antt) show that with today's figures it is today's. A change that moves a test adds a figure to `Copy` and the copy before it.
+use mathlib.Core.Bool.{Bool, true, false, not, cond, _&&_, _||_}
+use mathlib.Core.List.{List, [], _∷_, map}
+use Prim.Native.Nat.{ℕ, zero, suc, _+_, _%_}
+use lib.Dec.{eqb, leb, ltb}
+use lib.IntN.{pos}
+use lib.ListN.{length, drop}
+use Rattle.numbers.specs.Tests.{every}
+use Rattle.numbers.specs.Causes.{unless, orElse, firstOf, ifDone}
+use Rattle.rules.specs.Refusals.{notABook, badFile, badParty, badDay, badType, badCounterparty, badAmount, dayClosed, noRoom, noEntry, badFigure}
+use Rattle.rules.specs.Entry.{Key, Record, key, mostVolume, mostMoney, isMoney, isType, partyOk, dayOk, counterpartyOk, statusOk, markOk}
+use Rattle.rules.specs.Words.{Frame, frameOf, statusUnit, kindOf, valueOf, kindAt, decode, entries, countOf, coefficientOf, toleranceOf, roomIn, mostCoefficient, mostTolerance}
+use Rattle.rules.specs.Book.{shutTo, withdrawRefusal, entryAt, noRead, readOf}
+use Rattle.rules.specs.Balance.{Volume, tallyOf, boughtBy, noTally}
+use Rattle.rules.specs.Balance as balances
+use Rattle.rules.specs.Collateral.{figuresOk, collateralOf, refusedCollateral}
+use Rattle.rules.specs.Control.{controlRefusal}
+use Rattle.rules.specs.DayFile.{Item, line, emptyBlock, highAmounts, mostBytes, wordsOf, isHead, linesIn, items, itemCause, linesOf}
+use Rattle.rules.specs.Machine.{Machine}
+use Rattle.rules.specs.Calls.{Change, post, withdraw, control, file, Figures, bookMachine}
+use Rattle.rules.specs.declared.Case.{Case}
+use Rattle.rules.specs.declared.Counted.{Counted}
+use Rattle.rules.specs.declared.EntryRead.{EntryRead}
+use Rattle.rules.specs.declared.TallyAnswer.{TallyAnswer}
+use Rattle.rules.specs.declared.BalanceAnswer.{BalanceAnswer}
+use Rattle.rules.specs.declared.Collateral.{Collateral}
+
+-- the figures in which the tests of copies differ
+pub record Copy : Type 0 where
+  -- the limit of money, types 17-20
+  pub money : ℕ
+  -- the value of a line's kind 5 word is below this
+  pub high : ℕ
+
+-- copies until T-06 (01, 'Entry types' and 'The words'): money to 10^12, bits 0-11 of a kind 5 word
+abbrev pub until06 : Copy
+until06 = record { money = 1000000000000; high = 4096 }
+
+-- today's
+abbrev pub present : Copy
+present = record { money = mostMoney; high = highAmounts }
+
+-- checks 3 to 7 of a post
+unfoldable pub limitBy : Copy → ℕ → ℕ
+limitBy c t = cond (isMoney t) (c .money) mostVolume
+
+unfoldable pub faultBy : Copy → Key → ℕ → ℕ
+faultBy c k a =
+    firstOf
+    (unless (partyOk (k .party)) badParty
+    ∷ unless (dayOk (k .day)) badDay
+    ∷ unless (isType (k .type)) badType
+    ∷ unless (counterpartyOk k) badCounterparty
+    ∷ unless (leb a (limitBy c (k .type))) badAmount
+    ∷ [])
+
+-- what is a book
+unfoldable pub legalBy : Copy → Record → Bool
+legalBy c r = (eqb (faultBy c (key r) (r .amount)) 0 && statusOk (r .label)) || markOk r
+
+unfoldable pub entryOkBy : Copy → List ℕ → Bool
+entryOkBy c ws = every (kindAt ws 0 1 ∷ kindAt ws 1 2 ∷ kindAt ws 2 3 ∷ kindAt ws 3 4 ∷ kindAt ws 4 5 ∷ legalBy c (decode ws) ∷ [])
+
+unfoldable pub entriesOkBy : Copy → ℕ → List ℕ → Bool
+entriesOkBy c zero ws = true
+entriesOkBy c (suc n) ws = entryOkBy c ws && entriesOkBy c n (drop 5 ws)
+
+unfoldable pub isBookBy : Copy → List ℕ → Bool
+isBookBy c ws =
+    every
+    (leb 3 (length ws)
+    ∷ kindAt ws 0 6
+    ∷ kindAt ws 1 7
+    ∷ kindAt ws 2 8
+    ∷ leb (coefficientOf ws) mostCoefficient
+    ∷ leb (toleranceOf ws) mostTolerance
+    ∷ leb (countOf ws) (roomIn (length ws))
+    ∷ entriesOkBy c (countOf ws) (drop 3 ws)
+    ∷ [])
+
+-- what is a file, and the cause of each item
+abbrev pub isLineBy : Copy → ℕ → ℕ → ℕ → Bool
+isLineBy c w x y =
+    every
+    (eqb (kindOf w) 3
+    ∷ ltb (valueOf w) statusUnit
+    ∷ eqb (kindOf x) 4
+    ∷ eqb (kindOf y) 5
+    ∷ ltb (valueOf y) (c .high)
+    ∷ [])
+
+unfoldable pub isShapedBy : Copy → ℕ → List ℕ → Bool
+isShapedBy c zero [] = true
+isShapedBy c zero (w ∷ []) = false
+isShapedBy c zero (w ∷ x ∷ ws) = isHead w x && isShapedBy c (linesIn w) ws
+isShapedBy c (suc n) [] = false
+isShapedBy c (suc n) (w ∷ []) = false
+isShapedBy c (suc n) (w ∷ x ∷ []) = false
+isShapedBy c (suc n) (w ∷ x ∷ y ∷ ws) = isLineBy c w x y && isShapedBy c n ws
+
+unfoldable pub isFileBy : Copy → List ℕ → Bool
+isFileBy c bs = every (leb (length bs) mostBytes ∷ eqb (length bs % 4) 0 ∷ isShapedBy c 0 (wordsOf bs) ∷ [])
+
+unfoldable pub itemCauseBy : Copy → List Record → Item → ℕ
+itemCauseBy c rs (line k a) = firstOf (faultBy c k a ∷ unless (not (shutTo k rs)) dayClosed ∷ [])
+itemCauseBy c rs (emptyBlock p d) = itemCause rs (emptyBlock p d)
+
+-- the calls that change a book: the causes of then; figures and records left are today's
+unfoldable pub refusalBy : Copy → Frame → List Record → Change → ℕ
+refusalBy c f rs (post k a) =
+    firstOf (faultBy c k a ∷ unless (not (shutTo k rs)) dayClosed ∷ unless (ltb (length rs) (f .room)) noRoom ∷ [])
+refusalBy c f rs (withdraw n) = withdrawRefusal rs n
+refusalBy c f rs (control d) = controlRefusal f rs d
+refusalBy c f rs (file bs) =
+    firstOf
+    (unless (isFileBy c bs) badFile
+    ∷ firstOf (map (itemCauseBy c rs) (items bs))
+    ∷ unless (leb (length rs + length (linesOf (items bs))) (f .room)) noRoom
+    ∷ [])
+
+abbrev pub machineBy : Copy → Machine (List ℕ) Change Figures
+machineBy c =
+    record {
+      cause = λ ws call. orElse (unless (isBookBy c ws) notABook) (refusalBy c (frameOf ws) (entries ws) call);
+      figures = bookMachine .figures;
+      done = bookMachine .done;
+    }
+
+-- the calls that only read: the causes of then, and today's figures
+unfoldable pub askedBy : Copy → List ℕ → ℕ → ℕ → ℕ
+askedBy c ws p d =
+    firstOf (unless (isBookBy c ws) notABook ∷ unless (partyOk p) badParty ∷ unless (dayOk d) badDay ∷ [])
+
+unfoldable pub balanceBy : Copy → Volume → List ℕ → ℕ → ℕ → BalanceAnswer
+balanceBy c v ws p d =
+    record {
+      answer = askedBy c ws p d;
+      balance = ifDone (askedBy c ws p d) (balances.balance v (coefficientOf ws) (toleranceOf ws) p d (entries ws)) (pos 0);
+    }
+
+unfoldable pub tallyBy : Copy → List ℕ → ℕ → ℕ → TallyAnswer
+tallyBy c ws p d =
+    record {
+      answer = askedBy c ws p d;
+      tally = ifDone (askedBy c ws p d) (tallyOf p d (entries ws)) noTally;
+      bought = ifDone (askedBy c ws p d) (boughtBy p d (entries ws)) 0;
+    }
+
+unfoldable pub caseCauseBy : Copy → List ℕ → Case → ℕ
+caseCauseBy c ws k = firstOf (askedBy c ws (k .asked .party) (k .asked .day) ∷ unless (figuresOk k) badFigure ∷ [])
+
+unfoldable pub collateralBy : Copy → List ℕ → Case → Collateral
+collateralBy c ws k = ifDone (caseCauseBy c ws k) (collateralOf k (entries ws)) (refusedCollateral (caseCauseBy c ws k))
+
+unfoldable pub countCauseBy : Copy → List ℕ → ℕ
+countCauseBy c ws = firstOf (unless (isBookBy c ws) notABook ∷ [])
+
+unfoldable pub countBy : Copy → List ℕ → Counted
+countBy c ws = record { answer = countCauseBy c ws; count = ifDone (countCauseBy c ws) (countOf ws) 0 }
+
+unfoldable pub readCauseBy : Copy → List ℕ → ℕ → ℕ
+readCauseBy c ws n = firstOf (unless (isBookBy c ws) notABook ∷ unless (ltb n (countOf ws)) noEntry ∷ [])
+
+unfoldable pub entryBy : Copy → List ℕ → ℕ → EntryRead
+entryBy c ws n = ifDone (readCauseBy c ws n) (readOf (entryAt ws n)) (noRead (readCauseBy c ws n))
