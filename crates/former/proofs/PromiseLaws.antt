@@ -101,6 +101,7 @@ module _ (c : Copy) (o : Older c) where
         newBook = λ ws n h b. refuses-all c ws (elim (bool-cases (isBookBy c ws)) [ inl e ↦ absurd (new-bit ws n h b e) | inr e ↦ e ]);
         newFile = λ ws bs b w. let f : isFileBy c bs ≡ false = file-by c o bs ∙ and-fails (isFile bs) (all (narrowBy c) (items bs)) w in rw (b, f);
       }
+
 -- of copies until T-06
 pub until06-promise : Promise until06
 until06-promise = promise until06 until06-older

@@ -1,6 +1,6 @@
 -- Copies from before a change of document 02: their tests of a book and of a file, kept so that it can be stated what an older copy takes, answers and refuses.
--- No contract cites them. Each definition is today's of the same name with the copy's figures in its tests; `present-book` and the laws beside it
--- (proofs/CopyLaws.antt) show that with today's figures it is today's. A change that moves a test adds a figure to `Copy` and the copy before it.
+-- No contract cites them. Each is the definition that a contract cites, with the copy's figures in its tests: with today's figures it is that definition
+-- (`present-book` and the other laws of `present`, proofs/CopyLaws and PromiseLaws). A change that moves a test adds a figure to `Copy`, and the copy before it.
 use mathlib.Core.Bool.{Bool, true, false, not, cond, _&&_, _||_}
 use mathlib.Core.List.{List, [], _∷_, map}
 use Prim.Native.Nat.{ℕ, zero, suc, _+_, _%_}
@@ -42,7 +42,7 @@ until06 = record { money = 1000000000000; high = 4096 }
 abbrev pub present : Copy
 present = record { money = mostMoney; high = highAmounts }
 
--- checks 3 to 7 of a post
+-- checks 3 to 7 of a post (01, 'Entry types')
 unfoldable pub limitBy : Copy → ℕ → ℕ
 limitBy c t = cond (isMoney t) (c .money) mostVolume
 
@@ -56,7 +56,7 @@ faultBy c k a =
     ∷ unless (leb a (limitBy c (k .type))) badAmount
     ∷ [])
 
--- what is a book
+-- what is a book (01, 'The words')
 unfoldable pub legalBy : Copy → Record → Bool
 legalBy c r = (eqb (faultBy c (key r) (r .amount)) 0 && statusOk (r .label)) || markOk r
 
@@ -80,7 +80,7 @@ isBookBy c ws =
     ∷ entriesOkBy c (countOf ws) (drop 3 ws)
     ∷ [])
 
--- what is a file, and the cause of each item
+-- what is a file, and why a line or an empty block is refused (01, 'Day file')
 abbrev pub isLineBy : Copy → ℕ → ℕ → ℕ → Bool
 isLineBy c w x y =
     every
@@ -107,7 +107,7 @@ unfoldable pub itemCauseBy : Copy → List Record → Item → ℕ
 itemCauseBy c rs (line k a) = firstOf (faultBy c k a ∷ unless (not (shutTo k rs)) dayClosed ∷ [])
 itemCauseBy c rs (emptyBlock p d) = itemCause rs (emptyBlock p d)
 
--- the calls that change a book: the causes of then; figures and records left are today's
+-- the calls that change a book (01, 'Why a call comes back'): the causes of then; figures and records left are today's
 unfoldable pub refusalBy : Copy → Frame → List Record → Change → ℕ
 refusalBy c f rs (post k a) =
     firstOf (faultBy c k a ∷ unless (not (shutTo k rs)) dayClosed ∷ unless (ltb (length rs) (f .room)) noRoom ∷ [])
@@ -128,7 +128,7 @@ machineBy c =
       done = bookMachine .done;
     }
 
--- the calls that only read: the causes of then, and today's figures
+-- the calls that only read: the causes of then, and today's figures of the records
 unfoldable pub askedBy : Copy → List ℕ → ℕ → ℕ → ℕ
 askedBy c ws p d =
     firstOf (unless (isBookBy c ws) notABook ∷ unless (partyOk p) badParty ∷ unless (dayOk d) badDay ∷ [])
