@@ -303,6 +303,9 @@ tradingFigures =
     ∷ tradingFor 1 (withDefaults (beforeHoliday 3) 1) 1
     ∷ tradingIs (on 39 17 1 ∷ on 38 17 1 ∷ []) (withDefaults here 1) 3
     ∷ tradingIs [] (withDefaults here 30) 0
+    -- without loss at the largest amount: 10^13 × 50 × 4 / 80; 2 × 10^13 less a kuruş × 50 × 4 / 80 = 49,999,999,999,997.5
+    ∷ tradingFor 10000000000000 (withDefaults here 30) 25000000000000
+    ∷ tradingIs (on 39 17 10000000000000 ∷ on 39 19 10000000000000 ∷ on 39 18 1 ∷ []) (withDefaults here 30) 49999999999998
     ∷ []
 
 pub tradingFigures-hold : every tradingFigures ≡ true

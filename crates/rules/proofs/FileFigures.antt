@@ -243,6 +243,8 @@ fileCauses =
     ∷ refused 5 (head 1 2 5 ∷ line 21 0 7 ∷ (0x30000001 ∷ 0x4B9ACA01 ∷ 0x50000003 ∷ []) ∷ [])
     ∷ refusedIn closed 8 (file (head 3 1 5 ∷ line 6 4 7 ∷ badParty))
     ∷ refusedIn closed 3 (file (badParty ++ (head 3 1 5 ∷ line 6 4 7 ∷ [])))
+    ∷ refused 7 (oneLine 0x30000001 0x40000007 0x50001000 ++ badParty)
+    ∷ refused 3 (badParty ++ oneLine 0x30000001 0x40000007 0x50001000)
     ∷ refused 3 (noParty ++ badAmount)
     ∷ refused 7 (badAmount ++ noParty)
     ∷ refused 4 (noDay ++ noParty)
