@@ -147,7 +147,8 @@ impl<E: Engine> Worked<'_, E> {
         }
     }
 
-    /// 3,072 purchases of 10^13: × 50 × 4 / 80 is 76,800,000,000,000,000; 500 × 1,000,000 × 14,900,000,000 / 100,000.
+    /// 3,072 purchases of 10^13: × 50 × 4 / 80 is 76,800,000,000,000,000. The total adds the largest
+    /// imbalance, 500 × 1,000,000 × 14,900,000,000 / 100,000, the largest RT and the largest YT.
     fn largest_trading(&mut self) {
         let line = [0x3000_0011, 0x4E72_A000, 0x5000_9184];
         let file = [vec![0x1C00_0001, 0x2000_0063], line.repeat(3_072)].concat();
