@@ -4,14 +4,14 @@ use mathlib.Core.Logic.{inl, inr}
 use mathlib.Core.Bool.{Bool, true, false, cond, _&&_, _||_, false≢true}
 use mathlib.Core.List.{List, [], _∷_, map}
 use Prim.Native.Nat.{ℕ, zero, suc, _+_, _*_, _/_, _%_, _≤_, _<_, zero-le}
-use native.Mathlib.Nat.{le-refl, le-trans, suc-ne-zero}
+use native.Mathlib.Nat.{le-refl, le-trans, lt-of-le-of-lt, suc-ne-zero}
 use native.Mathlib.Omega.{arith}
 use lib.Dec.{eqb, leb, ltb}
 use lib.ListN.{drop}
 use borrow.Author.Tests.{leb-true, ltb-true, le-leb, lt-ltb, le-ltb, ne-eqb}
 use Rattle.numbers.specs.Tests.{every, all}
 use Rattle.numbers.specs.Causes.{unless, orElse, firstOf}
-use Rattle.numbers.proofs.TestLaws.{bool-cases, below-or-above, and-split}
+use Rattle.numbers.proofs.TestLaws.{bool-cases, below-or-above, and-split, and-join}
 use Rattle.rules.specs.Refusals.{notABook, badFile, badParty, badDay, badType, badCounterparty, badAmount}
 use Rattle.rules.specs.Entry.{Key, Record, keyOf, key, mostVolume, mostMoney, isMoney, isType, partyOk, dayOk, counterpartyOk, amountLimit, fault, markOk, statusOk, legal}
 use Rattle.rules.specs.Words.{Frame, frameOf, types, lowAmounts, statusUnit, kindOf, valueOf, decode, entryOk, entriesOk, readEntries, isBook, entries, countOf}
@@ -20,7 +20,7 @@ use Rattle.rules.specs.DayFile.{Item, line, emptyBlock, highAmounts, wordsOf, i
 use Rattle.rules.specs.Calls.{Change, post, withdraw, control, file, refusal, causeOf}
 use Rattle.rules.proofs.Limits.{mark-amount}
 use Rattle.former.specs.Former.{Copy, until06, present, limitBy, faultBy, legalBy, entryOkBy, entriesOkBy, isBookBy, isLineBy, isShapedBy, isFileBy, itemCauseBy, refusalBy, machineBy}
-use Rattle.former.specs.Promise.{fitsBy, narrowBy, Stays}
+use Rattle.former.specs.Promise.{amountBy, fitsBy, itemFitsBy, callFitsBy, narrowBy, Stays}
 
 -- with today's figures each test is today's
 present-entries : (n : ℕ) (ws : List ℕ) → entriesOkBy present n ws ≡ entriesOk n ws
@@ -89,6 +89,10 @@ and-both true true ks ls = refl
 and-both true false true ls = refl
 and-both true false false ls = refl
 and-both false l ks ls = refl
+
+and-true : (k : Bool) → k && true ≡ k
+and-true true = refl
+and-true false = refl
 
 -- no cause holds: the same of a list whose last test is narrower
 clear-else : (t : Bool) (n x y : ℕ) (m : Bool) → eqb x 0 ≡ eqb y 0 && m → eqb (orElse (unless t (suc n)) x) 0 ≡ eqb (orElse (unless t (suc n)) y) 0 && m
@@ -237,6 +241,16 @@ module _ (c : Copy) (o : Older c) where
   unfolding isFileBy isFile items
   file-by bs = rw (shaped-by 0 (wordsOf bs) 0 0, and-last _ (isShaped 0 (wordsOf bs)) (all (narrowBy c) (itemsFrom 0 0 0 (wordsOf bs))))
 
+  -- an amount within the copy's limit has no bit beyond the copy's
+  fits-narrow : (is : List Item) → all (itemFitsBy c) is ≡ true → all (narrowBy c) is ≡ true
+  unfolding all
+  fits-narrow [] e = refl
+  fits-narrow (line k a ∷ is) e =
+      let s = and-split (amountBy c k a) (all (itemFitsBy c) is) e in
+      let l : a < c .high * lowAmounts = lt-of-le-of-lt (leb-true a (limitBy c (k .type)) (s .0)) (limit-carried (k .type)) in
+      and-join _ _ (lt-ltb a (c .high * lowAmounts) l) (fits-narrow is (s .1))
+  fits-narrow (emptyBlock p d ∷ is) e = fits-narrow is e
+
   pub file-now : (bs : List ℕ) → isFileBy c bs ≡ true → isFile bs ≡ true
   file-now bs e = and-split (isFile bs) (all (narrowBy c) (items bs)) (sym (file-by bs) ∙ e) .0
 
@@ -269,6 +283,32 @@ module _ (c : Copy) (o : Older c) where
       kept-else (unless (isFileBy c bs) badFile) (unless (isFile bs) badFile)
       (kept-unless badFile (λ s. s .1 refl) (isFile bs) (isFileBy c bs) (file-now bs))
       (kept-else (firstOf (map (itemCauseBy c rs) (items bs))) (firstOf (map (itemCause rs) (items bs))) (items-kept rs (items bs)) (kept-same _))
+
+  -- and all are today's where the amounts are within the copy's limits
+  fault-fits : (k : Key) (a : ℕ) → amountBy c k a ≡ true → faultBy c k a ≡ fault k a
+  unfolding faultBy fault
+  fault-fits k a e = rw (e, amount-now (k .type) a e)
+
+  items-fit : (rs : List Record) (is : List Item) → all (itemFitsBy c) is ≡ true → firstOf (map (itemCauseBy c rs) is) ≡ firstOf (map (itemCause rs) is)
+  unfolding itemCauseBy itemCause all
+  items-fit rs [] e = refl
+  items-fit rs (line k a ∷ is) e =
+      let s = and-split (amountBy c k a) (all (itemFitsBy c) is) e in
+      rw (fault-fits k a (s .0), items-fit rs is (s .1))
+  items-fit rs (emptyBlock p d ∷ is) e = rw (items-fit rs is e)
+
+  refusal-fits : (f : Frame) (rs : List Record) (call : Change) → callFitsBy c call ≡ true → refusalBy c f rs call ≡ refusal f rs call
+  unfolding refusalBy refusal postRefusal fileRefusal
+  refusal-fits f rs (post k a) e = rw (fault-fits k a e)
+  refusal-fits f rs (withdraw n) e = refl
+  refusal-fits f rs (control d) e = refl
+  refusal-fits f rs (file bs) e =
+      let form : isFileBy c bs ≡ isFile bs = file-by bs ∙ ap (λ b. isFile bs && b) (fits-narrow (items bs) e) ∙ and-true (isFile bs) in
+      rw (form, items-fit rs (items bs) e)
+
+  pub cause-fits : (ws : List ℕ) (call : Change) → isBookBy c ws ≡ true → callFitsBy c call ≡ true → machineBy c .cause ws call ≡ causeOf ws call
+  unfolding causeOf
+  cause-fits ws call b e = rw (b, book-now ws b .0, refusal-fits (frameOf ws) (entries ws) call e)
 
   pub cause-kept : (ws : List ℕ) (call : Change) → Kept (machineBy c .cause ws call) (causeOf ws call)
   unfolding causeOf

@@ -16,6 +16,7 @@ use Rattle.rules.specs.Machine.{figuresOf, leavesOf}
 use Rattle.rules.specs.Calls.{Change, post, withdraw, control, file, noFigures, causeOf}
 use Rattle.rules.specs.declared.Case.{Case}
 use Rattle.rules.proofs.Worked.{minus, isSigned, sameNumbers, bytes, computed}
+use Rattle.rules.proofs.WordFigures.{highBits, spareBits}
 use Rattle.former.specs.Former.{until06, limitBy, faultBy, legalBy, entryOkBy, entriesOkBy, isBookBy, isShapedBy, isFileBy, itemCauseBy, refusalBy, machineBy, askedBy, balanceBy, tallyBy, caseCauseBy, collateralBy, countCauseBy, countBy, readCauseBy, entryBy}
 
 -- a book of R 110 and TM 600,000 with one entry of party 1 and day 9,000: its kind 3 word and the two words of its amount
@@ -50,13 +51,6 @@ posts t a before now = causes free (post (keyOf 1 9000 t 0) a) before now
 abbrev reads : ℕ → ℕ → ℕ → ℕ → ℕ → Bool
 reads w low high before now = causes free (file (fileOf w low high)) before now
 
--- each bit of a kind 5 word from 12 to 15, and from 16 on
-abbrev newBits : List ℕ
-newBits = 0x50001000 ∷ 0x50002000 ∷ 0x50004000 ∷ 0x50008000 ∷ []
-
-abbrev spareBits : List ℕ
-spareBits = 0x50010000 ∷ 0x50020000 ∷ 0x50100000 ∷ 0x51000000 ∷ 0x58000000 ∷ []
-
 abbrev next : Case
 next = withDay (withParty plainCase 1) 9001
 
@@ -75,8 +69,8 @@ formerFigures =
     ∷ every (map (isBookBy until06) (free ∷ paid ∷ []))
     ∷ not (any (isBookBy until06) (paidMore ∷ paidNew ∷ []))
     ∷ every (map isBook (free ∷ paid ∷ paidMore ∷ paidNew ∷ []))
-    ∷ not (any (λ y. isBookBy until06 (bookOf 0x30000014 0x40000000 y)) newBits)
-    ∷ every (map (λ y. isBook (bookOf 0x30000014 0x40000000 y)) newBits)
+    ∷ not (any (λ y. isBookBy until06 (bookOf 0x30000014 0x40000000 y)) highBits)
+    ∷ every (map (λ y. isBook (bookOf 0x30000014 0x40000000 y)) highBits)
     ∷ not (any (λ y. isBookBy until06 (bookOf 0x30000014 0x40000000 y)) spareBits)
     ∷ not (any (λ y. isBook (bookOf 0x30000014 0x40000000 y)) spareBits)
     ∷ isBookBy until06 (bookOf 0x31000014 0x4FFFFFFF 0x50000E8C)
@@ -91,8 +85,8 @@ formerFigures =
     ∷ reads 0x30000011 0x4FFFFFFF 0x50000FFF 7 0
     ∷ reads 0x30000011 0x4E72A000 0x50009184 2 0
     ∷ reads 0x30000011 0x4E72A001 0x50009184 2 7
-    ∷ every (map (λ y. reads 0x30000014 0x40000000 y 2 0) newBits)
-    ∷ every (map (λ y. reads 0x30000001 0x40000000 y 2 7) newBits)
+    ∷ every (map (λ y. reads 0x30000014 0x40000000 y 2 0) highBits)
+    ∷ every (map (λ y. reads 0x30000001 0x40000000 y 2 7) highBits)
     ∷ every (map (λ y. reads 0x30000014 0x40000000 y 2 2) spareBits)
     ∷ isFileBy until06 (fileOf 0x30000001 0x4FFFFFFF 0x50000FFF)
     ∷ not (isFileBy until06 (fileOf 0x30000001 0x40000000 0x50001000))

@@ -7,23 +7,23 @@ use Prim.Native.Nat.{ℕ, _+_, _*_, _≤_, _<_}
 use native.Mathlib.Omega.{arith}
 use lib.ListN.{length, drop}
 use lib.Seq.{getD-drop}
-use borrow.Author.Tests.{leb-true, le-ltb}
+use borrow.Author.Tests.{leb-true, le-leb, le-ltb}
 use Rattle.numbers.specs.Tests.{all}
 use Rattle.numbers.specs.Causes.{ifDone}
 use Rattle.numbers.proofs.TestLaws.{bool-cases, all-append, all-getD}
-use Rattle.rules.specs.Entry.{Key, noRecord, key}
+use Rattle.rules.specs.Entry.{Key, noRecord, key, isMoney}
 use Rattle.rules.specs.Words.{lowAmounts, valueAt, decode, isBook, entries, countOf}
 use Rattle.rules.specs.Book.{placeOf, entryAt, countCause, countAnswer, readCause, readAnswer}
 use Rattle.rules.specs.Balance.{partyDayCause, balanceAnswer, tallyAnswer}
 use Rattle.rules.specs.Collateral.{collateralCause, collateralAnswer}
 use Rattle.rules.specs.DayFile.{Item, line, isFile, items}
 use Rattle.rules.specs.Machine.{figuresOf, leavesOf}
-use Rattle.rules.specs.Calls.{Change, withdraw, control, file, noFigures, bookMachine, refusal, causeOf, figuresAt, wordsAfter}
+use Rattle.rules.specs.Calls.{Change, post, withdraw, control, file, noFigures, bookMachine, causeOf, figuresAt, wordsAfter}
 use Rattle.rules.proofs.BookLaws.{entry-at}
 use Rattle.rules.proofs.CallLaws.{entries-count}
 use Rattle.former.specs.Former.{Copy, until06, present, limitBy, isBookBy, isFileBy, refusalBy, machineBy, askedBy, balanceBy, tallyBy, caseCauseBy, collateralBy, countCauseBy, countBy, readCauseBy, entryBy}
 use Rattle.former.specs.Promise.{fitsBy, narrowBy, Stays, ReadsAlike, ActsAlike, RefusesAll, Promise}
-use Rattle.former.proofs.CopyLaws.{Older, until06-older, none-stays, limit-carried, book-by, book-now, file-by, cause-kept, present-book, present-cause}
+use Rattle.former.proofs.CopyLaws.{Older, until06-older, none-stays, limit-carried, book-by, book-now, file-by, cause-fits, cause-kept, present-book, present-cause}
 
 -- words that a copy and today's take alike, for a book or for none, are read alike
 reads-alike : (c : Copy) (ws : List ℕ) → isBookBy c ws ≡ isBook ws → ReadsAlike c ws
@@ -72,8 +72,8 @@ and-fails false y e = refl
 
 module _ (c : Copy) (o : Older c) where
   -- an entry with a new bit has an amount above the copy's limit
-  beyond : (a u v l : ℕ) → a ≡ u + v * lowAmounts → c .high ≤ v → l < c .high * lowAmounts → a ≤ l → ⊥
-  beyond a u v l e h k g = absurd (omega arith)
+  above-limit : (a u v l : ℕ) → a ≡ u + v * lowAmounts → c .high ≤ v → l < c .high * lowAmounts → a ≤ l → ⊥
+  above-limit a u v l e h k g = absurd (omega arith)
 
   new-bit : (ws : List ℕ) (n : ℕ) → n < countOf ws → c .high ≤ valueAt ws (placeOf n + 4) → isBookBy c ws ≡ true → ⊥
   unfolding decode entryAt
@@ -83,21 +83,20 @@ module _ (c : Copy) (o : Older c) where
       let l : n < length (entries ws) = rw (entries-count ws) h in
       let f : fitsBy c r ≡ true = ap (fitsBy c) (entry-at ws n h) ∙ all-getD (fitsBy c) (entries ws) (book-now c o ws e .1) n noRecord l in
       let v : c .high ≤ valueAt us 4 = rw (getD-drop (placeOf n) ws 4 0) b in
-      beyond (r .amount) (valueAt us 3) (valueAt us 4) (limitBy c (key r .type)) refl v (limit-carried c o (key r .type)) (leb-true _ _ f)
+      above-limit (r .amount) (valueAt us 3) (valueAt us 4) (limitBy c (key r .type)) refl v (limit-carried c o (key r .type)) (leb-true _ _ f)
 
   same-book : (ws : List ℕ) → isBookBy c ws ≡ true → isBookBy c ws ≡ isBook ws
   same-book ws e = e ∙ sym (book-now c o ws e .0)
 
   pub promise : Promise c
-  unfolding refusalBy refusal causeOf
+  unfolding refusalBy
   promise =
       record {
         books = book-by c o;
         files = file-by c o;
         reads = λ ws e. reads-alike c ws (same-book ws e);
         acts = λ ws call s. acts-alike c ws call (sym (cause-kept c o ws call s));
-        withdrawals = λ ws e n. acts-alike c ws (withdraw n) (rw (same-book ws e));
-        controls = λ ws e d. acts-alike c ws (control d) (rw (same-book ws e));
+        within = λ ws b call e. acts-alike c ws call (cause-fits c o ws call b e);
         newBook = λ ws n h b. refuses-all c ws (elim (bool-cases (isBookBy c ws)) [ inl e ↦ absurd (new-bit ws n h b e) | inr e ↦ e ]);
         newFile = λ ws bs b w. let f : isFileBy c bs ≡ false = file-by c o bs ∙ and-fails (isFile bs) (all (narrowBy c) (items bs)) w in rw (b, f);
       }
@@ -109,6 +108,18 @@ until06-promise = promise until06 until06-older
 -- and in 02's own figures: what the promise must cover, so that none of its conditions may ask for more
 pub other-cause : (k : ℕ) → k ≢ 1 → k ≢ 2 → k ≢ 7 → Stays k
 other-cause k a b c = (a, b, c)
+
+-- withdrawals and controls have no amount: on the copy's books each is as before, done or refused
+pub withdraw-acts : (ws : List ℕ) → isBookBy until06 ws ≡ true → (n : ℕ) → ActsAlike until06 ws (withdraw n)
+withdraw-acts ws b n = until06-promise .within ws b (withdraw n) refl
+
+pub control-acts : (ws : List ℕ) → isBookBy until06 ws ≡ true → (d : ℕ) → ActsAlike until06 ws (control d)
+control-acts ws b d = until06-promise .within ws b (control d) refl
+
+-- and so is a post of money up to 10^12
+pub money-acts : (ws : List ℕ) → isBookBy until06 ws ≡ true → (k : Key) (a : ℕ) → isMoney (k .type) ≡ true → a ≤ 1000000000000 → ActsAlike until06 ws (post k a)
+unfolding limitBy
+money-acts ws b k a m h = until06-promise .within ws b (post k a) (rw m (le-leb a 1000000000000 h))
 
 pub done-acts : (ws : List ℕ) (call : Change) → machineBy until06 .cause ws call ≡ 0 → ActsAlike until06 ws call
 done-acts ws call e = until06-promise .acts ws call (rw e none-stays)

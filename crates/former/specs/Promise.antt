@@ -8,20 +8,33 @@ use Prim.Native.Nat.{ℕ, _+_, _*_, _≤_, _<_}
 use lib.Dec.{leb, ltb}
 use Rattle.numbers.specs.Tests.{all}
 use Rattle.rules.specs.Refusals.{notABook, badFile, badAmount}
-use Rattle.rules.specs.Entry.{Record, key}
+use Rattle.rules.specs.Entry.{Key, Record, key}
 use Rattle.rules.specs.Words.{lowAmounts, valueAt, isBook, entries, countOf}
 use Rattle.rules.specs.Book.{placeOf, countAnswer, readAnswer}
 use Rattle.rules.specs.Balance.{Volume, balanceAnswer, tallyAnswer}
 use Rattle.rules.specs.Collateral.{collateralAnswer}
 use Rattle.rules.specs.DayFile.{Item, line, emptyBlock, isFile, items}
 use Rattle.rules.specs.Machine.{figuresOf, leavesOf}
-use Rattle.rules.specs.Calls.{Change, withdraw, control, file, noFigures, causeOf, figuresAt, wordsAfter}
+use Rattle.rules.specs.Calls.{Change, post, withdraw, control, file, noFigures, causeOf, figuresAt, wordsAfter}
 use Rattle.rules.specs.declared.Case.{Case}
 use Rattle.former.specs.Former.{Copy, limitBy, isBookBy, isFileBy, machineBy, countBy, entryBy, tallyBy, balanceBy, collateralBy}
 
--- the amount of a record is within the copy's limit of its type
+-- an amount is within the copy's limit of its type: that of a record, and each of a call
+abbrev pub amountBy : Copy → Key → ℕ → Bool
+amountBy c k a = leb a (limitBy c (k .type))
+
 abbrev pub fitsBy : Copy → Record → Bool
-fitsBy c r = leb (r .amount) (limitBy c (key r .type))
+fitsBy c r = amountBy c (key r) (r .amount)
+
+abbrev pub itemFitsBy : Copy → Item → Bool
+itemFitsBy c (line k a) = amountBy c k a
+itemFitsBy c (emptyBlock p d) = true
+
+abbrev pub callFitsBy : Copy → Change → Bool
+callFitsBy c (post k a) = amountBy c k a
+callFitsBy c (withdraw n) = true
+callFitsBy c (control d) = true
+callFitsBy c (file bs) = all (itemFitsBy c) (items bs)
 
 -- a line's amount has no bit beyond the copy's
 abbrev pub narrowBy : Copy → Item → Bool
@@ -63,9 +76,8 @@ pub record Promise (c : Copy) : Type 0 where
   pub reads : (ws : List ℕ) → isBookBy c ws ≡ true → ReadsAlike c ws
   -- a post or file that it did, or refused by another number than 1, 2 or 7, is answered as before and leaves the same words
   pub acts : (ws : List ℕ) (call : Change) → Stays (machineBy c .cause ws call) → ActsAlike c ws call
-  -- and so is every withdrawal and control of its books
-  pub withdrawals : (ws : List ℕ) → isBookBy c ws ≡ true → (n : ℕ) → ActsAlike c ws (withdraw n)
-  pub controls : (ws : List ℕ) → isBookBy c ws ≡ true → (d : ℕ) → ActsAlike c ws (control d)
+  -- and so is every call on its books whose amounts are within its limits, done or refused: each withdrawal and control among them
+  pub within : (ws : List ℕ) → isBookBy c ws ≡ true → (call : Change) → callFitsBy c call ≡ true → ActsAlike c ws call
   -- a book with a new bit in an entry's kind 5 word it refuses by 1, a file with one by 2
   pub newBook : (ws : List ℕ) (n : ℕ) → n < countOf ws → c .high ≤ valueAt ws (placeOf n + 4) → RefusesAll c ws
   pub newFile : (ws bs : List ℕ) → isBookBy c ws ≡ true → all (narrowBy c) (items bs) ≡ false → machineBy c .cause ws (file bs) ≡ badFile

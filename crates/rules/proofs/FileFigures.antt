@@ -13,6 +13,7 @@ use Rattle.rules.specs.Calls.{fileAnswer}
 use Rattle.rules.specs.declared.FileRead.{FileRead}
 use Rattle.rules.proofs.Worked.{fileWords, bytes, sameNumbers, computed}
 use Rattle.rules.proofs.ControlFigures.{entry, joined, page, mark}
+use Rattle.rules.proofs.WordFigures.{highBits, spareBits}
 
 -- a block's two words: party, number of lines, day; a line's three: type, counterparty, an amount below 2^28
 abbrev head : ℕ → ℕ → ℕ → List ℕ
@@ -46,10 +47,6 @@ taken ps n = answerIs (page [] 50) (file ps) 0 n
 -- a block of party 1 and day 5 with one line of these words
 abbrev oneLine : ℕ → ℕ → ℕ → List (List ℕ)
 oneLine w x y = head 1 1 5 ∷ (w ∷ x ∷ y ∷ []) ∷ []
-
--- a kind 5 word with each of the bits 12 to 15
-abbrev highBits : List ℕ
-highBits = 0x50001000 ∷ 0x50002000 ∷ 0x50004000 ∷ 0x50008000 ∷ []
 
 -- Cause 2: length, kinds, spare or status bits, ending
 pub fileShapes : List Bool
@@ -109,18 +106,8 @@ fileShapes =
     ∷ refused 5 (oneLine 0x30000015 0x40000007 0x50001000)
     ∷ refused 6 (oneLine 0x30000201 0x40000007 0x50001000)
     -- spare bits of kind 5, bits 16 to 27
-    ∷ refused 2 (oneLine 0x30000001 0x40000007 0x50010000)
-    ∷ refused 2 (oneLine 0x30000001 0x40000007 0x50020000)
-    ∷ refused 2 (oneLine 0x30000001 0x40000007 0x50040000)
-    ∷ refused 2 (oneLine 0x30000001 0x40000007 0x50080000)
-    ∷ refused 2 (oneLine 0x30000001 0x40000007 0x50100000)
-    ∷ refused 2 (oneLine 0x30000001 0x40000007 0x50200000)
-    ∷ refused 2 (oneLine 0x30000001 0x40000007 0x50400000)
-    ∷ refused 2 (oneLine 0x30000001 0x40000007 0x50800000)
-    ∷ refused 2 (oneLine 0x30000001 0x40000007 0x51000000)
-    ∷ refused 2 (oneLine 0x30000001 0x40000007 0x52000000)
-    ∷ refused 2 (oneLine 0x30000001 0x40000007 0x54000000)
-    ∷ refused 2 (oneLine 0x30000001 0x40000007 0x58000000)
+    ∷ every (map (λ y. refused 2 (oneLine 0x30000001 0x40000007 y)) spareBits)
+    ∷ every (map (λ y. refused 2 (oneLine 0x30000014 0x40000007 y)) spareBits)
     -- kinds 1, 2, 4 and the lower bits of 3 and 5 have no spare bit: party, day, type, counterparty and amount are too large
     ∷ refused 3 ((0x1000FFFF ∷ 0x20000005 ∷ []) ∷ [])
     ∷ refused 4 ((0x10000001 ∷ 0x2FFFFFFF ∷ []) ∷ [])

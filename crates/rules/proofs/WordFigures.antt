@@ -58,6 +58,13 @@ isBookWith i w = isBook (set sale i w)
 abbrev isBookOf : ℕ → ℕ → ℕ → Bool
 isBookOf w low high = isBook (take 5 sale ++ (w ∷ low ∷ high ∷ []))
 
+-- a kind 5 word with each of the bits 12 to 15, and with each of those that have no name, 16 to 27
+abbrev pub highBits : List ℕ
+highBits = 0x50001000 ∷ 0x50002000 ∷ 0x50004000 ∷ 0x50008000 ∷ []
+
+abbrev pub spareBits : List ℕ
+spareBits = 0x50010000 ∷ 0x50020000 ∷ 0x50040000 ∷ 0x50080000 ∷ 0x50100000 ∷ 0x50200000 ∷ 0x50400000 ∷ 0x50800000 ∷ 0x51000000 ∷ 0x52000000 ∷ 0x54000000 ∷ 0x58000000 ∷ []
+
 -- two entries, and five words of a third after them
 abbrev twoAndMore : List ℕ
 twoAndMore = 0x60000002 ∷ 0x700003E8 ∷ 0x8BEBC200 ∷ (soldLastWords ++ paidWords ++ markedWords)
@@ -141,10 +148,9 @@ wordFigures =
     ∷ not (isBookOf 0x30000011 0x4E72A001 0x50009184)
     ∷ not (isBookOf 0x30000011 0x40000000 0x50009185)
     -- bits 12 to 15 of kind 5 are the amount's, of money alone; 16 to 27 have no name
-    ∷ every (map (isBookOf 0x30000014 0x40000000) (0x50001000 ∷ 0x50002000 ∷ 0x50004000 ∷ 0x50008000 ∷ []))
-    ∷ not (any (isBookOf 0x30000001 0x40000000) (0x50001000 ∷ 0x50002000 ∷ 0x50004000 ∷ 0x50008000 ∷ []))
-    ∷ not (any (isBookOf 0x30000014 0x40000000) (0x50010000 ∷ 0x50020000 ∷ 0x50040000 ∷ 0x50080000 ∷ 0x50100000 ∷ 0x50200000 ∷ []))
-    ∷ not (any (isBookOf 0x30000014 0x40000000) (0x50400000 ∷ 0x50800000 ∷ 0x51000000 ∷ 0x52000000 ∷ 0x54000000 ∷ 0x58000000 ∷ []))
+    ∷ every (map (isBookOf 0x30000014 0x40000000) highBits)
+    ∷ not (any (isBookOf 0x30000001 0x40000000) highBits)
+    ∷ not (any (isBookOf 0x30000014 0x40000000) spareBits)
     -- a mark instead of the sale
     ∷ isBook (take 3 sale ++ markedWords)
     -- every entry counts, words after the last do not
