@@ -34,7 +34,7 @@
  * time.
  *
  * Stack. A call on a book needs 64 KiB, for the book's words; reading a day file 100 KiB, for a flag a day too;
- * control 340 KiB, for 17 sums a party and a bit a pair; the month step 200 KiB, for its tables. All others need less
+ * control 340 KiB, for 18 sums a party and a bit a pair; the month step 200 KiB, for its tables. All others need less
  * than 1 KiB.
  */
 #ifndef FANZSOREB_H
@@ -47,9 +47,9 @@
 extern "C" {
 #endif
 
-/* 1.1.2: major x 10,000 + minor x 100 + patch. A changed struct or signature raises the major number, a new call the
+/* 2.0.0: major x 10,000 + minor x 100 + patch. A changed struct or signature raises the major number, a new call the
  * minor one, any other change the patch. */
-#define FANZSOREB_VERSION 10102
+#define FANZSOREB_VERSION 20000
 
 #define FANZSOREB_MOST_ENTRIES 3072      /* of a book */
 #define FANZSOREB_BOOK_BYTES 61452       /* of a book with room for as many, 12 + 20 x 3,072 */
@@ -64,10 +64,10 @@ enum fanzsoreb_cause {
                                        ending wrong */
     FANZSOREB_BAD_PARTY = 3,        /* party outside 1 to 999 */
     FANZSOREB_BAD_DAY = 4,          /* day above 36,524 */
-    FANZSOREB_BAD_TYPE = 5,         /* type outside 1 to 20 */
+    FANZSOREB_BAD_TYPE = 5,         /* type outside 1 to 20 and not 22 */
     FANZSOREB_BAD_COUNTERPARTY = 6, /* not 0 outside type 6; in type 6 above 999 or the party itself. There 0 is the
                                        System Operator, an export */
-    FANZSOREB_BAD_AMOUNT = 7,       /* above 10^9 kWh for types 1 to 16, above 10^13 kurus for 17 to 20 */
+    FANZSOREB_BAD_AMOUNT = 7,       /* above 10^9 kWh for types 1 to 16 and 22, above 10^13 kurus for 17 to 20 */
     FANZSOREB_DAY_CLOSED = 8,       /* a second control of a day; posting or withdrawing a standing bilateral sale,
                                        counterparty above 0, of a day that was controlled */
     FANZSOREB_NO_ROOM = 9,          /* no entry free */
@@ -77,10 +77,17 @@ enum fanzsoreb_cause {
     FANZSOREB_BAD_FIGURE = 12       /* another figure outside its range */
 };
 
-/* Entry types: 1 to 16 are volumes in kWh, 0 to 10^9; 17 to 20 are money in kurus, 0 to 10^13. Before version 1.1.2
- * money was 0 to 10^12, and a kind 5 word had 12 bits: such a copy answers 1 to a book with more money in an entry; of
- * a day file with more it answers 2 if a kind 5 word has one of the bits 12 to 15, otherwise 7 for the line. Books and
- * files that it takes are read as before, with the same figures. */
+/* Entry types: 1 to 16 and 22 are volumes in kWh, 0 to 10^9; 17 to 20 are money in kurus, 0 to 10^13.
+ *
+ * Before version 2.0.0 there was no type 22: to such a copy a book with one in it is no book, so that every call on it
+ * answers 1, and a post of one, or a line of a day file, is refused by 5 where no fault comes before it. Its tally had
+ * 16 sums: fanzsoreb_sums and fanzsoreb_tally_answer have grown, and a host is to be compiled anew with this header.
+ *
+ * Before version 1.1.2 money was 0 to 10^12, and a kind 5 word had 12 bits: such a copy answers 1 to a book with more
+ * money in an entry; of a day file with more it answers 2 if a kind 5 word has one of the bits 12 to 15, otherwise 7
+ * for the line.
+ *
+ * Books and files that an older copy takes are read as before, with the same figures. */
 enum fanzsoreb_type {
     FANZSOREB_DAY_AHEAD_SALE = 1,
     FANZSOREB_INTRADAY_SALE = 2,
@@ -102,7 +109,8 @@ enum fanzsoreb_type {
     FANZSOREB_DAY_AHEAD_SALE_MONEY = 18,
     FANZSOREB_INTRADAY_PURCHASE_MONEY = 19,
     FANZSOREB_INTRADAY_SALE_MONEY = 20,
-    FANZSOREB_MARK = 21             /* a closed day; control writes it, no post does */
+    FANZSOREB_MARK = 21,            /* a closed day; control writes it, no post does */
+    FANZSOREB_UPDATED_GENERATION_PROGRAM = 22 /* the program as a later update has it; new in version 2.0.0 */
 };
 
 /* Only standing entries count. */
@@ -120,7 +128,7 @@ typedef struct {
     uint64_t amount;
 } fanzsoreb_entry_read;
 typedef struct { uint32_t answer; int64_t balance; } fanzsoreb_balance;
-typedef struct { uint32_t party; uint64_t sums[16]; } fanzsoreb_sums;
+typedef struct { uint32_t party; uint64_t sums[17]; } fanzsoreb_sums;
 typedef struct { uint32_t answer; fanzsoreb_sums tally; uint64_t bought; } fanzsoreb_tally_answer;
 typedef struct {
     uint64_t aosmf;  /* average price, kurus per MWh */
@@ -152,11 +160,11 @@ uint32_t fanzsoreb_open(uint8_t *book, size_t length, uint32_t coefficient, uint
  * TM that it was opened with, whichever version reads it. */
 uint32_t fanzsoreb_open_default(uint8_t *book, size_t length);
 
-/* Appends one standing entry; its number, counted from 0. Party 1 to 999; day 0 to 36,524; type 1 to 20; counterparty
- * 0 outside type 6, in type 6 0 to 999 and not the party; amount 0 to 10^9 kWh for types 1 to 16, 0 to 10^13 kurus
- * for 17 to 20. Changes the 20 bytes after the last entry, and the number of entries. Causes: 1, 3, 4, 5, 6, 7, 8
- * (type 6, counterparty above 0, on a closed day), 9. Each call checks the whole book: for many lines read a day
- * file. */
+/* Appends one standing entry; its number, counted from 0. Party 1 to 999; day 0 to 36,524; type 1 to 20, or 22;
+ * counterparty 0 outside type 6, in type 6 0 to 999 and not the party; amount 0 to 10^9 kWh for types 1 to 16 and 22,
+ * 0 to 10^13 kurus for 17 to 20. Changes the 20 bytes after the last entry, and the number of entries. Causes: 1, 3, 4,
+ * 5, 6, 7, 8 (type 6, counterparty above 0, on a closed day), 9. Each call checks the whole book: for many lines read a
+ * day file. */
 fanzsoreb_posted fanzsoreb_post(uint8_t *book, size_t length, uint32_t party, uint32_t day, uint32_t entry_type,
                                 uint32_t counterparty, uint64_t amount);
 
@@ -173,13 +181,15 @@ fanzsoreb_counted fanzsoreb_count(const uint8_t *book, size_t length);
  * Changes nothing. */
 fanzsoreb_entry_read fanzsoreb_entry(const uint8_t *book, size_t length, uint32_t number);
 
-/* A party's sums of a day over standing entries, in kWh: sums[k - 1] for volume type k, sum 6 without exports; and B,
- * what others sold to it by standing type 6. Party 1 to 999, day 0 to 36,524. Causes: 1, 3, 4. Changes nothing. */
+/* A party's sums of a day over standing entries, in kWh: sums[k - 1] for volume type k of 1 to 16, sum 6 without
+ * exports, and sums[16] for type 22; and B, what others sold to it by standing type 6. Party 1 to 999, day 0 to 36,524.
+ * Causes: 1, 3, 4. Changes nothing. */
 fanzsoreb_tally_answer fanzsoreb_tally(const uint8_t *book, size_t length, uint32_t party, uint32_t day);
 
 /* The two unrequited volumes of a party's day, in hundredths of a kWh, within 30,720,000,000,000,000 either way: 100
- * times its sales, less the larger of 100 times TM and R times its cover. Party 1 to 999, day 0 to 36,524. Causes: 1,
- * 3, 4. Change nothing. */
+ * times its sales, less the larger of 100 times TM and R times its cover. The generation program in its cover is sum 12
+ * in the day-ahead balance, the larger of sums 12 and 22 in the delivery balance: an update below the program changes
+ * neither. Party 1 to 999, day 0 to 36,524. Causes: 1, 3, 4. Change nothing. */
 fanzsoreb_balance fanzsoreb_day_ahead(const uint8_t *book, size_t length, uint32_t party, uint32_t day);
 fanzsoreb_balance fanzsoreb_delivery(const uint8_t *book, size_t length, uint32_t party, uint32_t day);
 
@@ -208,9 +218,10 @@ fanzsoreb_month_answer fanzsoreb_month(const uint8_t *prices, size_t prices_leng
                                        const uint8_t *imbalance, size_t imbalance_length, uint32_t rows,
                                        const uint8_t *dm, size_t dm_length, uint32_t group);
 
-/* Control of a day, 0 to 36,524: how many parties were detected in each pass, and how many entries were cancelled.
- * Changes the status of the day's standing bilateral sales that it cancels, to 2; the 20 bytes after the last entry,
- * which become the day's mark; and the number of entries. From then on the day is closed. Causes: 1, 4, 8, 9. */
+/* Control of a day, 0 to 36,524: how many parties were detected in each pass, and how many entries were cancelled. It
+ * goes by day-ahead balances, so an updated program does not count. Changes the status of the day's standing bilateral
+ * sales that it cancels, to 2; the 20 bytes after the last entry, which become the day's mark; and the number of
+ * entries. From then on the day is closed. Causes: 1, 4, 8, 9. */
 fanzsoreb_controlled fanzsoreb_control(uint8_t *book, size_t length, uint32_t day);
 
 /* Reads a day file into a book: all lines are posted, or none; how many were. A file is 0 to 65,536 bytes,
@@ -272,7 +283,7 @@ static inline const char *fanzsoreb_cause_name(uint32_t answer)
     case FANZSOREB_BAD_FILE: return "not a day file";
     case FANZSOREB_BAD_PARTY: return "party outside 1 to 999";
     case FANZSOREB_BAD_DAY: return "day above 36,524";
-    case FANZSOREB_BAD_TYPE: return "type outside 1 to 20";
+    case FANZSOREB_BAD_TYPE: return "type outside 1 to 20 and not 22";
     case FANZSOREB_BAD_COUNTERPARTY: return "counterparty";
     case FANZSOREB_BAD_AMOUNT: return "amount";
     case FANZSOREB_DAY_CLOSED: return "day closed";

@@ -40,9 +40,9 @@ static void null_pointers(void)
 static void cause_names(void)
 {
     static const char *const names[] = {
-        "done", "not a book", "not a day file", "party outside 1 to 999", "day above 36,524", "type outside 1 to 20",
-        "counterparty", "amount", "day closed", "no entry free", "no such entry, a mark, or not standing", "length",
-        "figure outside its range"
+        "done", "not a book", "not a day file", "party outside 1 to 999", "day above 36,524",
+        "type outside 1 to 20 and not 22", "counterparty", "amount", "day closed", "no entry free",
+        "no such entry, a mark, or not standing", "length", "figure outside its range"
     };
     uint32_t cause;
     for (cause = 0; cause <= 12; cause++)
@@ -58,24 +58,30 @@ static void at_offset(size_t offset)
     opens(offset);
     posts(offset);
     larger_money(offset);
+    updates(offset);
     posts_refused(offset);
     withdraws(offset);
     reads(offset);
     longer(offset);
     tallies(offset);
     balances(offset);
+    updated_programs(offset);
     months(offset);
     months_weighed(offset);
     months_refused(offset);
     longest_month(offset);
     plain_supplier(offset);
     items(offset);
+    update_beside_money(offset);
     figures_of_a_case(offset);
     cases_refused(offset);
     repeated_pair(offset);
     closed_day(offset);
+    updated_day(offset);
+    updated_buyer(offset);
     reads_a_file(offset);
     files_of_larger_money(offset);
+    files_of_updates(offset);
     largest_trading(offset);
     files_refused(offset);
 }

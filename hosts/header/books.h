@@ -94,8 +94,7 @@ static void posts(size_t offset)
     CHECK(as_expected());
 }
 
-/* An entry of party 1 and day 0 whose kind 3 and kind 5 words are these: bits 12 to 15 of kind 5 are an amount's, of
- * money alone, bits 16 to 27 are spare (document 02, T-06). */
+/* Whether a first entry may have these words of kinds 3 and 5. */
 static int holds(uint32_t figures, uint32_t high)
 {
     store(book, 5, figures);
@@ -103,6 +102,7 @@ static int holds(uint32_t figures, uint32_t high)
     return (int)fanzsoreb_is_book(book, lent);
 }
 
+/* Bits 12 to 15 of a kind 5 word are an amount's, of money alone, bits 16 to 27 are spare (document 02, T-06). */
 static void larger_money(size_t offset)
 {
     uint32_t type, bit;
@@ -118,6 +118,54 @@ static void larger_money(size_t offset)
         CHECK(holds(0x30000014, 0x50000000 | (uint32_t)1 << bit) == (bit <= 15));
         CHECK(holds(0x30000001, 0x50000000 | (uint32_t)1 << bit) == 0);
     }
+}
+
+/* Type 22 is a volume without a counterparty; 21 stays a mark's, and 278 is 22 in its low byte (document 02, T-02). */
+static void updates(size_t offset)
+{
+    static const uint32_t others[] = { 0, FANZSOREB_MARK, 23, 24, 255, 278 };
+    fanzsoreb_posted p;
+    fanzsoreb_entry_read e;
+    size_t i;
+    fresh(offset);
+    keep();
+    put(0, 0x60000001);
+    put(3, 0x100003E7);
+    put(4, 0x20008EAC);
+    put(5, 0x30000016);
+    put(6, 0x4B9ACA00); /* 10^9 = 3 x 2^28 + 194,693,632 */
+    put(7, 0x50000003);
+    p = fanzsoreb_post(book, lent, 999, 36524, FANZSOREB_UPDATED_GENERATION_PROGRAM, 0, 1000000000);
+    CHECK(p.answer == FANZSOREB_DONE && p.number == 0);
+    CHECK(as_expected());
+    e = fanzsoreb_entry(book, lent, 0);
+    CHECK(e.answer == FANZSOREB_DONE && e.party == 999 && e.day == 36524 && e.entry_type == 22);
+    CHECK(e.counterparty == 0 && e.status == FANZSOREB_STANDING && e.amount == 1000000000);
+    CHECK(fanzsoreb_count(book, lent).count == 1 && fanzsoreb_is_book(book, lent) == 1);
+    REFUSED(post(0, 36525, FANZSOREB_UPDATED_GENERATION_PROGRAM, 1, 1000000001), FANZSOREB_BAD_PARTY);
+    REFUSED(post(1, 36525, FANZSOREB_UPDATED_GENERATION_PROGRAM, 1, 1000000001), FANZSOREB_BAD_DAY);
+    REFUSED(post(1, 0, FANZSOREB_UPDATED_GENERATION_PROGRAM, 1, 0), FANZSOREB_BAD_COUNTERPARTY);
+    REFUSED(post(1, 0, FANZSOREB_UPDATED_GENERATION_PROGRAM, 2, 1000000001), FANZSOREB_BAD_COUNTERPARTY);
+    REFUSED(post(1, 0, FANZSOREB_UPDATED_GENERATION_PROGRAM, 0, 1000000001), FANZSOREB_BAD_AMOUNT);
+    REFUSED(post(1, 0, FANZSOREB_UPDATED_GENERATION_PROGRAM, 0, 1000000000000), FANZSOREB_BAD_AMOUNT);
+    REFUSED(post(1, 0, FANZSOREB_UPDATED_GENERATION_PROGRAM, 0, 10000000000000), FANZSOREB_BAD_AMOUNT);
+    for (i = 0; i < 6; i++)
+        REFUSED(post(1, 0, others[i], 0, 0), FANZSOREB_BAD_TYPE);
+    lent = 12 + 20;
+    REFUSED(post(1, 0, FANZSOREB_UPDATED_GENERATION_PROGRAM, 0, 0), FANZSOREB_NO_ROOM);
+    keep();
+    put(5, 0x31000016);
+    CHECK(fanzsoreb_withdraw(book, lent, 0) == FANZSOREB_DONE);
+    CHECK(as_expected());
+    REFUSED(fanzsoreb_withdraw(book, lent, 0), FANZSOREB_NO_ENTRY);
+    CHECK(holds(0x30000016, 0x50000003) == 1 && holds(0x31000016, 0x50000003) == 1);
+    CHECK(holds(0x32000016, 0x50000003) == 0 && holds(0x33000016, 0x50000003) == 0);
+    CHECK(holds(0x30000116, 0x50000003) == 0 && holds(0x30000015, 0x50000003) == 0);
+    CHECK(holds(0x30000017, 0x50000003) == 0 && holds(0x300000FF, 0x50000003) == 0);
+    CHECK(holds(0x30000016, 0x50000004) == 0 && holds(0x30000016, 0x50000E8D) == 0);
+    CHECK(holds(0x30000016, 0x50009184) == 0 && holds(0x30000016, 0x50010000) == 0);
+    store(book, 6, 0x4B9ACA01); /* 10^9 + 1 */
+    CHECK(holds(0x30000016, 0x50000003) == 0 && entry_cause(0) == FANZSOREB_NOT_A_BOOK);
 }
 
 static void posts_refused(size_t offset)

@@ -82,6 +82,16 @@ static void items(size_t offset)
     CHECK(as_expected());
 }
 
+/* Trading is of types 17 to 20 alone. */
+static void update_beside_money(size_t offset)
+{
+    fanzsoreb_case c = generator();
+    money(offset);
+    update(5, 99, 1000000000);
+    CHECK(fanzsoreb_collateral_of(book, lent, &c).trading == 1470);
+    CHECK(fanzsoreb_collateral_of(book, lent, &c).total == 1385887);
+}
+
 static void figures_of_a_case(size_t offset)
 {
     fanzsoreb_case c = generator();

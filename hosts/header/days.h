@@ -61,6 +61,46 @@ static void closed_day(size_t offset)
     REFUSED(control_cause(9001), FANZSOREB_NOT_A_BOOK);
 }
 
+/* Party 1 sells 700,000 to 2 against a program of 600,000, updated to 700,000: control goes by the day-ahead balance.
+ * The closed day takes updates, and their withdrawal. R 105, TM 500,000. */
+static void updated_day(size_t offset)
+{
+    fanzsoreb_controlled c;
+    fresh(offset);
+    CHECK(post(1, 9000, FANZSOREB_BILATERAL_SALE, 2, 700000) == FANZSOREB_DONE);
+    CHECK(post(1, 9000, FANZSOREB_GENERATION_PROGRAM, 0, 600000) == FANZSOREB_DONE);
+    update(1, 9000, 700000);
+    CHECK(day_ahead(1, 9000) == 7000000 && delivery(1, 9000) == -3500000); /* 70,000,000 less 63 or 73.5 million */
+    keep();
+    put(0, 0x60000004);
+    put(5, 0x32000206);
+    put(18, 0x10000000);
+    put(19, 0x20002328);
+    put(20, 0x30000015);
+    put(21, 0x40000000);
+    put(22, 0x50000000);
+    c = fanzsoreb_control(book, lent, 9000);
+    CHECK(c.answer == FANZSOREB_DONE && c.first == 1 && c.second == 0 && c.cancelled == 1);
+    CHECK(as_expected());
+    CHECK(day_ahead(1, 9000) == -63000000 && delivery(1, 9000) == -73500000);
+    CHECK(fanzsoreb_withdraw(book, lent, 2) == FANZSOREB_DONE);
+    CHECK(day_ahead(1, 9000) == -63000000 && delivery(1, 9000) == -63000000);
+    update(1, 9000, 650000);
+    CHECK(day_ahead(1, 9000) == -63000000 && delivery(1, 9000) == -68250000); /* 105 x 650,000 */
+}
+
+/* As repeated_pair, and 2 has an update: it does not stand for the purchase that 2 lost. */
+static void updated_buyer(size_t offset)
+{
+    fanzsoreb_controlled c;
+    controlled_day(offset);
+    CHECK(post(1, 9001, FANZSOREB_BILATERAL_SALE, 2, 700000) == FANZSOREB_DONE);
+    CHECK(post(2, 9001, FANZSOREB_BILATERAL_SALE, 3, 700000) == FANZSOREB_DONE);
+    update(2, 9001, 1000000);
+    c = fanzsoreb_control(book, lent, 9001);
+    CHECK(c.answer == FANZSOREB_DONE && c.first == 1 && c.second == 1 && c.cancelled == 2);
+}
+
 /* A file of words, at any address. */
 static uint8_t file_bytes[FANZSOREB_MOST_FILE_BYTES + 8];
 static uint8_t *file;
@@ -137,6 +177,38 @@ static void files_of_larger_money(size_t offset)
         CHECK(file_cause(40) == (uint32_t)(bit <= 15 ? FANZSOREB_DONE : FANZSOREB_BAD_FILE));
         REFUSED(changed(offset, 4, high), (uint32_t)(bit <= 15 ? FANZSOREB_BAD_AMOUNT : FANZSOREB_BAD_FILE));
     }
+}
+
+/* The sample with an update in the place of its program, and what a line of type 22 may not have. */
+static void files_of_updates(size_t offset)
+{
+    fanzsoreb_file_read r;
+    fresh(offset);
+    sample(offset ^ 1);
+    store(file, 5, 0x30000016);
+    r = fanzsoreb_read_file(book, lent, file, 40);
+    CHECK(r.answer == FANZSOREB_DONE && r.posted == 2);
+    CHECK(fanzsoreb_entry(book, lent, 1).entry_type == FANZSOREB_UPDATED_GENERATION_PROGRAM);
+    CHECK(day_ahead(1, 9000) == 20000000 && delivery(1, 9000) == 17500000); /* TM 500,000; 105 x 500,000 */
+    REFUSED(changed(offset, 5, 0x30000216), FANZSOREB_BAD_COUNTERPARTY);
+    REFUSED(changed(offset, 5, 0x31000016), FANZSOREB_BAD_FILE);
+    REFUSED(changed(offset, 5, 0x30000015), FANZSOREB_BAD_TYPE);
+    REFUSED(changed(offset, 5, 0x30000017), FANZSOREB_BAD_TYPE);
+    REFUSED(changed(offset, 5, 0x300000FF), FANZSOREB_BAD_TYPE);
+    sample(offset);
+    store(file, 5, 0x30000016);
+    store(file, 6, 0x4B9ACA00); /* 10^9, 10^9 + 1, 10^12 = 3,725 x 2^28 + 77,926,400 */
+    store(file, 7, 0x50000003);
+    CHECK(file_cause(40) == FANZSOREB_DONE && fanzsoreb_entry(book, lent, 3).amount == 1000000000);
+    store(file, 6, 0x4B9ACA01);
+    REFUSED(file_cause(40), FANZSOREB_BAD_AMOUNT);
+    store(file, 6, 0x44A51000);
+    store(file, 7, 0x50000E8D);
+    REFUSED(file_cause(40), FANZSOREB_BAD_AMOUNT);
+    controlled_day(offset);
+    sample(offset);
+    store(file, 2, 0x30000016); /* two lines of a closed day, neither a bilateral sale */
+    CHECK(file_cause(40) == FANZSOREB_DONE && fanzsoreb_count(book, lent).count == 7);
 }
 
 /* 3,072 purchases of 10^13 on day 99, read at once: x 50 x 4 / 80. */

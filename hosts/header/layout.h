@@ -14,7 +14,7 @@
     HELD(type##_##field, offsetof(type, field) == (place) && sizeof(((type *)0)->field) == (bytes))
 #define VALUE(name, value) HELD(name##_value, (name) == (value))
 
-VALUE(FANZSOREB_VERSION, 10102);
+VALUE(FANZSOREB_VERSION, 20000);
 VALUE(FANZSOREB_MOST_ENTRIES, 3072);
 VALUE(FANZSOREB_BOOK_BYTES, 4 * (3 + 5 * 3072));
 VALUE(FANZSOREB_MOST_FILE_BYTES, 65536);
@@ -55,6 +55,7 @@ VALUE(FANZSOREB_DAY_AHEAD_SALE_MONEY, 18);
 VALUE(FANZSOREB_INTRADAY_PURCHASE_MONEY, 19);
 VALUE(FANZSOREB_INTRADAY_SALE_MONEY, 20);
 VALUE(FANZSOREB_MARK, 21);
+VALUE(FANZSOREB_UPDATED_GENERATION_PROGRAM, 22);
 
 VALUE(FANZSOREB_STANDING, 0);
 VALUE(FANZSOREB_WITHDRAWN, 1);
@@ -85,14 +86,14 @@ SIZE(fanzsoreb_balance, 16);
 AT(fanzsoreb_balance, answer, 0, 4);
 AT(fanzsoreb_balance, balance, 8, 8);
 
-SIZE(fanzsoreb_sums, 136);
+SIZE(fanzsoreb_sums, 144);
 AT(fanzsoreb_sums, party, 0, 4);
-AT(fanzsoreb_sums, sums, 8, 128);
+AT(fanzsoreb_sums, sums, 8, 136);
 
-SIZE(fanzsoreb_tally_answer, 152);
+SIZE(fanzsoreb_tally_answer, 160);
 AT(fanzsoreb_tally_answer, answer, 0, 4);
-AT(fanzsoreb_tally_answer, tally, 8, 136);
-AT(fanzsoreb_tally_answer, bought, 144, 8);
+AT(fanzsoreb_tally_answer, tally, 8, 144);
+AT(fanzsoreb_tally_answer, bought, 152, 8);
 
 SIZE(fanzsoreb_month_figures, 16);
 AT(fanzsoreb_month_figures, aosmf, 0, 8);

@@ -7,7 +7,7 @@ static uint32_t tally_cause(uint32_t party, uint32_t day)
     fanzsoreb_tally_answer t = fanzsoreb_tally(book, lent, party, day);
     uint64_t any = t.bought | t.tally.party;
     int k;
-    for (k = 0; k < 16; k++)
+    for (k = 0; k < 17; k++)
         any |= t.tally.sums[k];
     CHECK(t.answer == FANZSOREB_DONE || any == 0);
     return t.answer;
@@ -34,13 +34,14 @@ static int64_t delivery(uint32_t party, uint32_t day)
 }
 
 /* Party 1 has k x 1,000 of each volume type k, an export and another day's sale; party 3 sells it 77. R 110, TM 0. */
-static void sixteen_types(size_t offset)
+static void seventeen_types(size_t offset)
 {
     uint32_t k;
     lend(offset, FANZSOREB_BOOK_BYTES, 0xEE);
     CHECK(fanzsoreb_open(book, lent, 110, 0) == FANZSOREB_DONE);
     for (k = 1; k <= 16; k++)
         CHECK(post(1, 9000, k, k == FANZSOREB_BILATERAL_SALE ? 2 : 0, 1000 * k) == FANZSOREB_DONE);
+    CHECK(post(1, 9000, FANZSOREB_UPDATED_GENERATION_PROGRAM, 0, 22000) == FANZSOREB_DONE);
     CHECK(post(1, 9000, FANZSOREB_BILATERAL_SALE, 0, 5) == FANZSOREB_DONE);
     CHECK(post(1, 9001, FANZSOREB_DAY_AHEAD_SALE, 0, 5) == FANZSOREB_DONE);
     CHECK(post(3, 9000, FANZSOREB_BILATERAL_SALE, 1, 77) == FANZSOREB_DONE);
@@ -50,12 +51,13 @@ static void tallies(size_t offset)
 {
     fanzsoreb_tally_answer t;
     unsigned k;
-    sixteen_types(offset);
+    seventeen_types(offset);
     keep();
     t = fanzsoreb_tally(book, lent, 1, 9000);
     CHECK(t.answer == FANZSOREB_DONE && t.tally.party == 1 && t.bought == 77);
     for (k = 1; k <= 16; k++)
         CHECK(t.tally.sums[k - 1] == 1000 * k);
+    CHECK(t.tally.sums[16] == 22000);
     CHECK(tally_cause(0, 36525) == FANZSOREB_BAD_PARTY);
     CHECK(tally_cause(1, 36525) == FANZSOREB_BAD_DAY);
     CHECK(as_expected());
@@ -75,10 +77,10 @@ static void clear_up_to(uint32_t tolerance)
 
 static void balances(size_t offset)
 {
-    sixteen_types(offset);
+    seventeen_types(offset);
     keep();
     CHECK(day_ahead(1, 9000) == -7518470); /* 100 x 14,000 - 110 x (65,000 + 77 + 16,000) */
-    CHECK(delivery(1, 9000) == -8908470);  /* 100 x 21,000 - 110 x (84,000 + 77 + 16,000) */
+    CHECK(delivery(1, 9000) == -10008470); /* 100 x 21,000 - 110 x (84,000 - 12,000 + 22,000 + 77 + 16,000) */
     CHECK(day_ahead(2, 9000) == -660000 && delivery(2, 9000) == -660000);
     CHECK(day_ahead(3, 9000) == 7700 && delivery(3, 9000) == 7700);
     CHECK(balance_cause(3, 9000) == FANZSOREB_DONE);
@@ -92,6 +94,49 @@ static void balances(size_t offset)
     clear_up_to(500000);
     CHECK(fanzsoreb_open(book, lent, 110, 600000) == FANZSOREB_DONE);
     clear_up_to(600000);
+}
+
+/* Sums 12 and 22 of a tally. */
+static int programs(uint64_t program, uint64_t update)
+{
+    fanzsoreb_tally_answer t = fanzsoreb_tally(book, lent, 1, 9000);
+    return t.answer == FANZSOREB_DONE && t.tally.sums[11] == program && t.tally.sums[16] == update;
+}
+
+static void update(uint32_t party, uint32_t day, uint64_t amount)
+{
+    CHECK(post(party, day, FANZSOREB_UPDATED_GENERATION_PROGRAM, 0, amount) == FANZSOREB_DONE);
+}
+
+/* Delivery uses the larger of sums 12 and 22, day-ahead sum 12 (document 02, T-02). R 100, TM 0: a balance is -100 x the
+ * program that it uses. */
+static void updated_programs(size_t offset)
+{
+    lend(offset, FANZSOREB_BOOK_BYTES, 0xEE);
+    CHECK(fanzsoreb_open(book, lent, 100, 0) == FANZSOREB_DONE);
+    CHECK(post(1, 9000, FANZSOREB_GENERATION_PROGRAM, 0, 300) == FANZSOREB_DONE);
+    CHECK(programs(300, 0) && day_ahead(1, 9000) == -30000 && delivery(1, 9000) == -30000);
+    update(1, 9000, 200); /* below */
+    CHECK(programs(300, 200) && day_ahead(1, 9000) == -30000 && delivery(1, 9000) == -30000);
+    update(1, 9000, 100); /* equal, both together */
+    CHECK(programs(300, 300) && day_ahead(1, 9000) == -30000 && delivery(1, 9000) == -30000);
+    update(1, 9000, 1); /* above */
+    CHECK(programs(300, 301) && day_ahead(1, 9000) == -30000 && delivery(1, 9000) == -30100);
+    update(2, 9000, 5000); /* another party's, another day's */
+    update(1, 9001, 7000);
+    CHECK(programs(300, 301) && day_ahead(1, 9000) == -30000 && delivery(1, 9000) == -30100);
+    CHECK(day_ahead(2, 9000) == 0 && delivery(2, 9000) == -500000);
+    CHECK(day_ahead(1, 9001) == 0 && delivery(1, 9001) == -700000);
+    CHECK(fanzsoreb_withdraw(book, lent, 0) == FANZSOREB_DONE); /* updates without a program */
+    CHECK(programs(0, 301) && day_ahead(1, 9000) == 0 && delivery(1, 9000) == -30100);
+    CHECK(fanzsoreb_withdraw(book, lent, 1) == FANZSOREB_DONE);
+    CHECK(programs(0, 101) && day_ahead(1, 9000) == 0 && delivery(1, 9000) == -10100);
+
+    fresh(offset);
+    update(1, 9000, 476190); /* 105 x 476,190 is below 100 x 500,000, 105 x 476,191 is 50,000,055 */
+    CHECK(day_ahead(1, 9000) == -50000000 && delivery(1, 9000) == -50000000);
+    update(1, 9000, 1);
+    CHECK(day_ahead(1, 9000) == -50000000 && delivery(1, 9000) == -50000055);
 }
 
 static void detection(void)

@@ -27,6 +27,7 @@ use rules::layout::PARTY_WORD;
 use rules::layout::STANDING;
 use rules::layout::STATUS;
 use rules::layout::TYPES;
+use rules::layout::UPDATED_PROGRAM;
 use rules::layout::WITHDRAWN;
 
 // Checks 3 to 7 of a post, one each (01, 'Entry types').
@@ -51,7 +52,7 @@ pub fn is_money(entry_type: u32) -> bool
 pub fn is_volume(entry_type: u32) -> bool
     ensures { λ r. ⌜ r ≡ isVolume «entry_type» ⌝ }
 {
-    (1 <= entry_type) & (entry_type <= 16)
+    ((1 <= entry_type) & (entry_type <= 16)) | (entry_type == UPDATED_PROGRAM)
 }
 
 pub fn is_type(entry_type: u32) -> bool

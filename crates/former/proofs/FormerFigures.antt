@@ -1,14 +1,15 @@
--- Worked figures of copies until T-06 beside today's: books and files are written as words by 01, 'The words' and 'Day file'.
+-- Worked figures of copies until T-06 and until T-02 beside today's: books and files are written as words by 01, 'The words' and 'Day file'.
 -- 10^12 is E8D4A51000 (low 28 bits 4A51000, next E8D); 10^13 is 9184E72A000 (low 28 bits E72A000, next 9184); day 9,000 is 2328.
 use mathlib.Core.Bool.{Bool, true, not}
-use mathlib.Core.List.{List, [], _∷_, map}
+use mathlib.Core.List.{List, [], _∷_, _++_, map}
 use mathlib.Core.Path.{_≡_, refl}
 use Prim.Native.Nat.{ℕ}
 use lib.Dec.{eqb}
+use lib.ListN.{replicate}
 use Rattle.numbers.specs.Tests.{every, any}
-use Rattle.rules.specs.Entry.{keyOf}
-use Rattle.rules.specs.Words.{isBook}
-use Rattle.rules.specs.Balance.{dayAhead, delivery}
+use Rattle.rules.specs.Entry.{keyOf, recordOf}
+use Rattle.rules.specs.Words.{isBook, usedWords}
+use Rattle.rules.specs.Balance.{dayAhead, delivery, tallyAnswer}
 use Rattle.rules.specs.Collateral.{plainCase, collateralAnswer}
 use Rattle.rules.specs.CaseFigures.{withParty, withDay}
 use Rattle.rules.specs.DayFile.{isFile}
@@ -17,7 +18,7 @@ use Rattle.rules.specs.Calls.{Change, post, withdraw, control, file, noFigures,
 use Rattle.rules.specs.declared.Case.{Case}
 use Rattle.rules.proofs.Worked.{minus, isSigned, sameNumbers, bytes, computed}
 use Rattle.rules.proofs.WordFigures.{highBits, spareBits}
-use Rattle.former.specs.Former.{until06, limitBy, faultBy, legalBy, entryOkBy, entriesOkBy, isBookBy, isShapedBy, isFileBy, itemCauseBy, refusalBy, machineBy, askedBy, balanceBy, tallyBy, caseCauseBy, collateralBy, countCauseBy, countBy, readCauseBy, entryBy}
+use Rattle.former.specs.Former.{Copy, until06, until02, tallyOfBy, coverSideBy, formulaBy, balanceOn, limitBy, faultBy, legalBy, entryOkBy, entriesOkBy, isBookBy, isShapedBy, isFileBy, itemCauseBy, refusalBy, machineBy, askedBy, balanceBy, tallyBy, caseCauseBy, collateralBy, countCauseBy, countBy, readCauseBy, entryBy}
 
 -- a book of R 110 and TM 600,000 with one entry of party 1 and day 9,000: its kind 3 word and the two words of its amount
 abbrev bookOf : ℕ → ℕ → ℕ → List ℕ
@@ -41,15 +42,52 @@ free = 0x60000000 ∷ 0x7000006E ∷ 0x800927C0 ∷ 7 ∷ 7 ∷ 7 ∷ 7 ∷ 7 �
 abbrev fileOf : ℕ → ℕ → ℕ → List ℕ
 fileOf w low high = bytes (0x10010001 ∷ 0x20002328 ∷ w ∷ low ∷ high ∷ [])
 
--- the cause of a copy until T-06 beside today's
+-- the cause of a copy beside today's, and of one until T-06
+abbrev causesOf : Copy → List ℕ → Change → ℕ → ℕ → Bool
+causesOf c ws call before now = every (eqb (machineBy c .cause ws call) before ∷ eqb (causeOf ws call) now ∷ [])
+
 abbrev causes : List ℕ → Change → ℕ → ℕ → Bool
-causes ws call before now = every (eqb (machineBy until06 .cause ws call) before ∷ eqb (causeOf ws call) now ∷ [])
+causes ws call before now = causesOf until06 ws call before now
 
 abbrev posts : ℕ → ℕ → ℕ → ℕ → Bool
 posts t a before now = causes free (post (keyOf 1 9000 t 0) a) before now
 
 abbrev reads : ℕ → ℕ → ℕ → ℕ → ℕ → Bool
 reads w low high before now = causes free (file (fileOf w low high)) before now
+
+-- and of one until T-02
+abbrev posts02 : ℕ → ℕ → ℕ → ℕ → ℕ → Bool
+posts02 t p a before now = causesOf until02 free (post (keyOf 1 9000 t p) a) before now
+
+abbrev reads02 : List ℕ → ℕ → ℕ → Bool
+reads02 bs before now = causesOf until02 free (file bs) before now
+
+-- a program of 7, an update of 7, standing and withdrawn, and a mark
+abbrev program : List ℕ
+program = bookOf 0x3000000C 0x40000007 0x50000000
+
+abbrev update : List ℕ
+update = bookOf 0x30000016 0x40000007 0x50000000
+
+abbrev updateGone : List ℕ
+updateGone = bookOf 0x31000016 0x40000007 0x50000000
+
+abbrev closed : List ℕ
+closed = 0x60000001 ∷ 0x7000006E ∷ 0x800927C0 ∷ 0x10000000 ∷ 0x20002328 ∷ 0x30000015 ∷ 0x40000000 ∷ 0x50000000 ∷ []
+
+-- two lines of party 1 and day 9,000, an update and a volume above 10^9, in either order; an update of party 0
+abbrev updateFirst : List ℕ
+updateFirst = bytes (0x10020001 ∷ 0x20002328 ∷ 0x30000016 ∷ 0x40000007 ∷ 0x50000000 ∷ 0x30000001 ∷ 0x4B9ACA01 ∷ 0x50000003 ∷ [])
+
+abbrev updateLast : List ℕ
+updateLast = bytes (0x10020001 ∷ 0x20002328 ∷ 0x30000001 ∷ 0x4B9ACA01 ∷ 0x50000003 ∷ 0x30000016 ∷ 0x40000007 ∷ 0x50000000 ∷ [])
+
+abbrev nobody : List ℕ
+nobody = bytes (0x10010000 ∷ 0x20002328 ∷ 0x30000016 ∷ 0x40000007 ∷ 0x50000000 ∷ [])
+
+-- R 200, TM 0: a program of 7, and that with a sale of 5 and an intraday purchase of 2
+abbrev covered : List ℕ
+covered = usedWords 200 0 (recordOf (keyOf 1 9000 12 0) 0 7 ∷ recordOf (keyOf 1 9000 1 0) 0 5 ∷ recordOf (keyOf 1 9000 8 0) 0 2 ∷ [])
 
 abbrev next : Case
 next = withDay (withParty plainCase 1) 9001
@@ -108,8 +146,44 @@ formerFigures =
     ∷ sameNumbers (map (λ ws. collateralBy until06 ws next .trading) (paid ∷ paidMore ∷ paidNew ∷ [])) (1000000000000 ∷ 0 ∷ 0 ∷ [])
     ∷ sameNumbers (map (λ ws. collateralBy until06 ws next .answer) (paid ∷ paidMore ∷ paidNew ∷ [])) (0 ∷ 1 ∷ 1 ∷ [])
     ∷ sameNumbers (map (λ ws. collateralAnswer ws next .trading) (paid ∷ paidMore ∷ paidNew ∷ [])) (1000000000000 ∷ 1000000000001 ∷ 1099511627776 ∷ [])
+    -- T-02: types 1 to 20, whatever the amount; no other limit differs
+    ∷ sameNumbers (map (limitBy until02) (1 ∷ 16 ∷ 17 ∷ 20 ∷ 22 ∷ [])) (1000000000 ∷ 1000000000 ∷ 10000000000000 ∷ 10000000000000 ∷ 1000000000 ∷ [])
+    ∷ posts 22 5 5 0
+    ∷ posts02 22 0 1000000000 5 0
+    ∷ posts02 22 0 1000000001 5 7
+    ∷ posts02 22 2 5 5 6
+    ∷ posts02 21 0 5 5 5
+    ∷ posts02 23 0 5 5 5
+    ∷ posts02 20 0 10000000000000 0 0
+    ∷ posts02 20 0 10000000000001 7 7
+    ∷ posts02 16 0 1000000000 0 0
+    ∷ posts02 16 0 1000000001 7 7
+    -- books: one with an update is none, withdrawn too; one with a mark is
+    ∷ every (map (isBookBy until02) (free ∷ paid ∷ paidMore ∷ paidNew ∷ program ∷ closed ∷ []))
+    ∷ not (any (isBookBy until02) (update ∷ updateGone ∷ []))
+    ∷ not (any (isBookBy until06) (update ∷ updateGone ∷ []))
+    ∷ every (map isBook (program ∷ update ∷ updateGone ∷ closed ∷ []))
+    ∷ causesOf until02 update (withdraw 0) 1 0
+    ∷ causesOf until02 update (control 9000) 1 9
+    ∷ causesOf until02 update (file []) 1 0
+    ∷ sameNumbers (countBy until02 update .answer ∷ entryBy until02 update 0 .answer ∷ tallyBy until02 update 1 9000 .answer ∷ balanceBy until02 delivery update 1 9000 .answer ∷ collateralBy until02 update next .answer ∷ []) (1 ∷ 1 ∷ 1 ∷ 1 ∷ 1 ∷ [])
+    -- files: 5 for the line, in file order; 3 before it
+    ∷ reads02 (fileOf 0x30000016 0x40000007 0x50000000) 5 0
+    ∷ reads02 (fileOf 0x30000216 0x40000007 0x50000000) 5 6
+    ∷ reads02 (fileOf 0x30000016 0x44A51000 0x50000E8D) 5 7
+    ∷ reads02 updateFirst 5 7
+    ∷ reads02 updateLast 7 7
+    ∷ reads02 nobody 3 3
+    ∷ reads02 (fileOf 0x30000011 0x4E72A000 0x50009184) 0 0
+    ∷ reads02 (fileOf 0x30000001 0x40000000 0x50010000) 2 2
+    -- sixteen sums then, seventeen now; the balances: 500 - 1,400, and 500 - 1,800 with the intraday purchase
+    ∷ sameNumbers (tallyBy until02 program 1 9000 .tally .sums) (replicate 11 0 ++ (7 ∷ replicate 4 0))
+    ∷ sameNumbers (tallyBy until02 program 0 9000 .tally .sums) (replicate 16 0)
+    ∷ sameNumbers (tallyAnswer program 1 9000 .tally .sums) (replicate 11 0 ++ (7 ∷ replicate 5 0))
+    ∷ isSigned (balanceBy until02 dayAhead covered 1 9000 .balance) (minus 900)
+    ∷ isSigned (balanceBy until02 delivery covered 1 9000 .balance) (minus 1300)
     ∷ []
 
 pub formerFigures-hold : every formerFigures ≡ true
-unfolding computed formerFigures limitBy faultBy legalBy entryOkBy entriesOkBy isBookBy isShapedBy isFileBy itemCauseBy refusalBy askedBy balanceBy tallyBy caseCauseBy collateralBy countCauseBy countBy readCauseBy entryBy
+unfolding computed formerFigures tallyOfBy coverSideBy formulaBy balanceOn limitBy faultBy legalBy entryOkBy entriesOkBy isBookBy isShapedBy isFileBy itemCauseBy refusalBy askedBy balanceBy tallyBy caseCauseBy collateralBy countCauseBy countBy readCauseBy entryBy
 formerFigures-hold = refl

@@ -8,7 +8,7 @@ use rules::BalanceAnswer;
 use rules::TallyAnswer;
 use rules::layout::BOOK_WORDS;
 
-// The sixteen sums of a party's day and B.
+// The seventeen sums of a party's day and B.
 #[no_mangle]
 pub extern "C" fn fanzsoreb_tally(book: &[u8], party: u32, day: u32) -> TallyAnswer
     ensures { λ r. ⌜ r ≡ onWords (now (book .entry)) (λ ws. tallyAnswer ws party day) (record { answer = notABook; tally = noTally; bought = 0 }) ⌝ }

@@ -7,7 +7,7 @@ use rules::BalanceAnswer;
 use rules::Tally;
 use rules::TallyAnswer;
 
-// The sixteen sums and B, which both balances are made of.
+// The seventeen sums and B, which both balances are made of.
 pub fn tally(book: &[u32], party: u32, day: u32) -> TallyAnswer
     ensures { λ r. ⌜ r ≡ tallyAnswer (now (book .entry)) party day ⌝ }
 {

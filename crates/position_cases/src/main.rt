@@ -29,6 +29,9 @@ fn sum(got: TallyAnswer, entry_type: usize) -> u64 {
     if entry_type == 0 {
         return got.bought;
     }
+    if entry_type == 22 {
+        return sums[16];
+    }
     if entry_type < 17 {
         return sums[entry_type - 1];
     }
@@ -42,7 +45,7 @@ fn has_sum(got: TallyAnswer, r: Row) -> bool {
 
 // Each sum and B, from the first to the last, are what they were: none.
 fn is_empty(got: TallyAnswer) -> bool {
-    let mut empty = true;
+    let mut empty = sum(got, 22) == 0;
     let mut i = 0;
     while i < 17 {
         empty = empty & (sum(got, i) == 0);

@@ -35,12 +35,12 @@ balanceOn v R TM rs = balanceAnswer v (usedWords R TM rs) 1 9000 .balance
 abbrev bothOn : ℕ → ℕ → List Record → ℤ → Bool
 bothOn R TM rs z = isSigned (balanceOn dayAhead R TM rs) z && isSigned (balanceOn delivery R TM rs) z
 
--- types 1 to 16 without 6, 7 kWh each in a book of its ofOne
+-- types 1 to 16 without 6, and 22, 7 kWh each in a book of its own
 abbrev eachAlone : Volume → ℕ → ℕ → List ℤ
 eachAlone v R TM =
     map
     (λ t. balanceOn v R TM (ofOne t 7 ∷ []))
-    (1 ∷ 2 ∷ 3 ∷ 4 ∷ 5 ∷ 7 ∷ 8 ∷ 9 ∷ 10 ∷ 11 ∷ 12 ∷ 13 ∷ 14 ∷ 15 ∷ 16 ∷ [])
+    (1 ∷ 2 ∷ 3 ∷ 4 ∷ 5 ∷ 7 ∷ 8 ∷ 9 ∷ 10 ∷ 11 ∷ 12 ∷ 13 ∷ 14 ∷ 15 ∷ 16 ∷ 22 ∷ [])
 
 -- 2, 4, .. 65,536 of types 1 to 16, and sales to the party by two sellers, 131,072 and 262,144
 abbrev allTypes : List Record
@@ -87,6 +87,18 @@ others =
     ∷ of 0 21 0 0
     ∷ []
 
+-- the same and an updated program of 524,288
+abbrev updated : List Record
+updated = ofOne 22 524288 ∷ allTypes
+
+-- updates that count nowhere for party 1 on day 9,000: a withdrawn one, another day's, another party's
+abbrev otherUpdates : List Record
+otherUpdates = recordOf (keyOf 1 9000 22 0) 1 100 ∷ recordOf (keyOf 1 9001 22 0) 0 100 ∷ of 2 22 0 100 ∷ []
+
+-- cover of these programs alone, in hundredths: day-ahead and delivery
+abbrev programsAre : List Record → ℕ → ℕ → Bool
+programsAre rs ahead after = isSigned (balanceOn dayAhead 100 0 rs) (minus ahead) && isSigned (balanceOn delivery 100 0 rs) (minus after)
+
 abbrev tallyIs : List ℕ → ℕ → ℕ → ℕ → ℕ → List ℕ → ℕ → Bool
 tallyIs ws p d answer party sums bought =
     let t : TallyAnswer = tallyAnswer ws p d in
@@ -101,7 +113,7 @@ refusedFor ws p d cause =
     ∷ isSigned (balanceAnswer dayAhead ws p d .balance) (pos 0)
     ∷ eqb (balanceAnswer delivery ws p d .answer) cause
     ∷ isSigned (balanceAnswer delivery ws p d .balance) (pos 0)
-    ∷ tallyIs ws p d cause 0 (replicate 16 0) 0
+    ∷ tallyIs ws p d cause 0 (replicate 17 0) 0
     ∷ [])
 
 abbrev detectedIs : ℕ → ℕ → List Record → Bool → Bool
@@ -113,14 +125,14 @@ tallyOfB tender import = tallyAnswer (usedWords 200 0 (ofOne 15 tender ∷ ofOne
 
 pub balanceFigures : List Bool
 balanceFigures =
-    -- TM 0, R 200: a sale of 7 is 700, cover of 7 is -1,400; intraday types 2, 5, 8, 11 are not in the day-ahead balance
+    -- TM 0, R 200: a sale of 7 is 700, cover of 7 is -1,400; intraday types 2, 5, 8, 11 and type 22 are not in the day-ahead balance
     sameSigned
     (eachAlone dayAhead 200 0)
-    (pos 700 ∷ pos 0 ∷ pos 700 ∷ pos 700 ∷ pos 0 ∷ minus 1400 ∷ pos 0 ∷ minus 1400 ∷ minus 1400 ∷ pos 0 ∷ minus 1400 ∷ minus 1400 ∷ minus 1400 ∷ minus 1400 ∷ minus 1400 ∷ [])
-    ∷ sameSigned (eachAlone delivery 200 0) (replicate 5 (pos 700) ++ replicate 10 (minus 1400))
+    (pos 700 ∷ pos 0 ∷ pos 700 ∷ pos 700 ∷ pos 0 ∷ minus 1400 ∷ pos 0 ∷ minus 1400 ∷ minus 1400 ∷ pos 0 ∷ minus 1400 ∷ minus 1400 ∷ minus 1400 ∷ minus 1400 ∷ minus 1400 ∷ pos 0 ∷ [])
+    ∷ sameSigned (eachAlone delivery 200 0) (replicate 5 (pos 700) ++ replicate 11 (minus 1400))
     -- TM 5: a sale of 7 is 700 - 500, cover × 200 decides, cover × 50 does not
-    ∷ sameSigned (eachAlone delivery 200 5) (replicate 5 (pos 200) ++ replicate 10 (minus 1400))
-    ∷ sameSigned (eachAlone delivery 50 5) (replicate 5 (pos 200) ++ replicate 10 (minus 500))
+    ∷ sameSigned (eachAlone delivery 200 5) (replicate 5 (pos 200) ++ replicate 11 (minus 1400))
+    ∷ sameSigned (eachAlone delivery 50 5) (replicate 5 (pos 200) ++ replicate 11 (minus 500))
     -- type 6: to another party, an export, another party's to this one, two sellers to one buyer
     ∷ bothOn 200 0 (of 1 6 2 7 ∷ []) (pos 700)
     ∷ bothOn 200 0 (of 1 6 0 7 ∷ []) (pos 0)
@@ -135,10 +147,27 @@ balanceFigures =
     -- S against the tolerance alone, R 0: 9,000 and 12,600
     ∷ isSigned (balanceOn dayAhead 0 0 (allTypes ++ others)) (pos 9000)
     ∷ isSigned (balanceOn delivery 0 0 (allTypes ++ others)) (pos 12600)
-    -- the tally: the party and sixteen sums, and B beside them
-    ∷ tallyIs (usedWords 300 1 (allTypes ++ others)) 1 9000 0 1 (2 ∷ 4 ∷ 8 ∷ 16 ∷ 32 ∷ 64 ∷ 128 ∷ 256 ∷ 512 ∷ 1024 ∷ 2048 ∷ 4096 ∷ 8192 ∷ 16384 ∷ 32768 ∷ 65536 ∷ []) 393216
-    ∷ tallyIs (usedWords 300 1 (ofOne 3 5 ∷ ofOne 3 6 ∷ ofOne 16 9 ∷ [])) 1 9000 0 1 (0 ∷ 0 ∷ 11 ∷ 0 ∷ 0 ∷ 0 ∷ 0 ∷ 0 ∷ 0 ∷ 0 ∷ 0 ∷ 0 ∷ 0 ∷ 0 ∷ 0 ∷ 9 ∷ []) 0
-    ∷ tallyIs (usedWords 300 1 (ofOne 3 5 ∷ [])) 2 9000 0 2 (replicate 16 0) 0
+    -- updated programs: delivery has 28,544 + 524,288 + 458,752 for C, day-ahead keeps 4,096 of sum 12; an update below it changes nothing
+    ∷ isSigned (balanceOn dayAhead 300 1 (updated ++ others)) (minus 146717400)
+    ∷ isSigned (balanceOn delivery 300 1 (others ++ updated)) (minus 303462600)
+    ∷ isSigned (balanceOn delivery 300 1 (ofOne 22 4095 ∷ allTypes)) (minus 147405000)
+    ∷ isSigned (balanceOn delivery 300 1 (ofOne 22 4097 ∷ allTypes)) (minus 147405300)
+    -- the larger of sums 12 and 22, never both: 30 and 20, 20 and 30, 30 and 30, 22 alone; each is a sum of its entries
+    ∷ programsAre (ofOne 12 30 ∷ ofOne 22 20 ∷ []) 3000 3000
+    ∷ programsAre (ofOne 12 20 ∷ ofOne 22 30 ∷ []) 2000 3000
+    ∷ programsAre (ofOne 22 30 ∷ ofOne 12 30 ∷ []) 3000 3000
+    ∷ programsAre (ofOne 22 30 ∷ []) 0 3000
+    ∷ programsAre (ofOne 12 20 ∷ ofOne 22 10 ∷ ofOne 22 15 ∷ []) 2000 2500
+    ∷ programsAre (ofOne 12 10 ∷ ofOne 22 20 ∷ ofOne 12 15 ∷ []) 2500 2500
+    ∷ programsAre (ofOne 12 20 ∷ ofOne 22 21 ∷ otherUpdates) 2000 2100
+    -- an update of 1,000,000,000 beside all others of R and TM: 1,000 × 10^9
+    ∷ isSigned (balanceOn delivery 1000 200000000 (ofOne 22 1000000000 ∷ [])) (minus 1000000000000)
+    -- the tally: the party and seventeen sums, and B beside them
+    ∷ tallyIs (usedWords 300 1 (allTypes ++ others)) 1 9000 0 1 (2 ∷ 4 ∷ 8 ∷ 16 ∷ 32 ∷ 64 ∷ 128 ∷ 256 ∷ 512 ∷ 1024 ∷ 2048 ∷ 4096 ∷ 8192 ∷ 16384 ∷ 32768 ∷ 65536 ∷ 0 ∷ []) 393216
+    ∷ tallyIs (usedWords 300 1 (ofOne 3 5 ∷ ofOne 3 6 ∷ ofOne 16 9 ∷ [])) 1 9000 0 1 (0 ∷ 0 ∷ 11 ∷ 0 ∷ 0 ∷ 0 ∷ 0 ∷ 0 ∷ 0 ∷ 0 ∷ 0 ∷ 0 ∷ 0 ∷ 0 ∷ 0 ∷ 9 ∷ 0 ∷ []) 0
+    ∷ tallyIs (usedWords 300 1 (updated ++ otherUpdates)) 1 9000 0 1 (2 ∷ 4 ∷ 8 ∷ 16 ∷ 32 ∷ 64 ∷ 128 ∷ 256 ∷ 512 ∷ 1024 ∷ 2048 ∷ 4096 ∷ 8192 ∷ 16384 ∷ 32768 ∷ 65536 ∷ 524288 ∷ []) 393216
+    ∷ tallyIs (usedWords 300 1 (ofOne 22 5 ∷ ofOne 22 6 ∷ [])) 1 9000 0 1 (replicate 16 0 ++ (11 ∷ [])) 0
+    ∷ tallyIs (usedWords 300 1 (ofOne 3 5 ∷ [])) 2 9000 0 2 (replicate 17 0) 0
     -- sums over records: money by its type; B of type 6 alone
     ∷ eqb (sumOf 1 9000 17 others) 2
     ∷ eqb (sumOf 1 9000 18 others) 4
@@ -180,7 +209,7 @@ balanceFigures =
     ∷ refusedFor (usedWords 300 1 allTypes) 1 36525 4
     ∷ isSigned (balanceAnswer dayAhead (usedWords 300 1 []) 999 36524 .balance) (minus 100)
     ∷ isSigned (balanceAnswer delivery (usedWords 300 1 []) 1 0 .balance) (minus 100)
-    ∷ tallyIs (usedWords 300 1 []) 999 36524 0 999 (replicate 16 0) 0
+    ∷ tallyIs (usedWords 300 1 []) 999 36524 0 999 (replicate 17 0) 0
     ∷ []
 
 pub balanceFigures-hold : every balanceFigures ≡ true

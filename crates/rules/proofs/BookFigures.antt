@@ -119,6 +119,24 @@ calls =
 abbrev callAnswers : List ℕ
 callAnswers = 3 ∷ 0 ∷ 0 ∷ 0 ∷ 0 ∷ 0 ∷ 10 ∷ 0 ∷ 7 ∷ 0 ∷ 0 ∷ 1 ∷ 9 ∷ 0 ∷ 10 ∷ 0 ∷ 4 ∷ 0 ∷ []
 
+-- posts of types 21 and 23, and of the updated program (02, T-02): with a counterparty, above 10^9, of 10^9 and withdrawn
+abbrev update : Key
+update = keyOf 1 9000 22 0
+
+abbrev updates : List Call
+updates =
+    post (keyOf 1 9000 21 0) 5
+    ∷ post (keyOf 1 9000 23 0) 5
+    ∷ post (keyOf 1 9000 22 2) 5
+    ∷ post update 1000000001
+    ∷ post update 10000000000001
+    ∷ post update 1000000000
+    ∷ withdraw 0
+    ∷ []
+
+abbrev updateAnswers : List ℕ
+updateAnswers = 5 ∷ 0 ∷ 5 ∷ 0 ∷ 6 ∷ 0 ∷ 7 ∷ 0 ∷ 7 ∷ 0 ∷ 0 ∷ 0 ∷ 0 ∷ 0 ∷ []
+
 pub bookFigures : List Bool
 bookFigures =
     -- opening: 11 below 3 words, 12 for R above 1,000 or TM above 200,000,000, 11 before 12; three words are written, the others stay
@@ -166,6 +184,11 @@ bookFigures =
     ∷ postIs shut (keyOf 1 9000 6 0) 5 0 7
     ∷ postIs shut (keyOf 1 9000 1 0) 5 0 7
     ∷ postIs shut (keyOf 1 8999 6 2) 5 0 7
+    ∷ postIs shut update 1000000000 0 7
+    -- an update's amount is a volume; its words
+    ∷ postRefused shut update 1000000001 7
+    ∷ postRefused shut update 1000000000000 7
+    ∷ postLeaves (opened 8) update 1000000000 (0x60000001 ∷ 0x70000096 ∷ 0x80000009 ∷ 0x10000001 ∷ 0x20002328 ∷ 0x30000016 ∷ 0x4B9ACA00 ∷ 0x50000003 ∷ [])
     ∷ isClosed 9000 shutRecords
     ∷ not (isClosed 9001 shutRecords)
     ∷ not (isClosed 0 [])
@@ -214,6 +237,9 @@ bookFigures =
     ∷ sameNumbers (bookAfter (opened 13) calls) (set both 5 0x31000014)
     ∷ sameNumbers (allAnswers (ledgerAnswers 13 calls)) callAnswers
     ∷ sameNumbers (allFields (ledgerAfter 13 calls)) (999 ∷ 36524 ∷ 20 ∷ 0 ∷ 1 ∷ 10000000000000 ∷ 998 ∷ 9000 ∷ 6 ∷ 999 ∷ 0 ∷ 1000000000 ∷ [])
+    ∷ sameNumbers (allAnswers (bookAnswers (opened 8) updates)) updateAnswers
+    ∷ sameNumbers (allAnswers (ledgerAnswers 8 updates)) updateAnswers
+    ∷ sameNumbers (allFields (ledgerAfter 8 updates)) (1 ∷ 9000 ∷ 22 ∷ 0 ∷ 1 ∷ 1000000000 ∷ [])
     ∷ []
 
 pub bookFigures-hold : every bookFigures ≡ true

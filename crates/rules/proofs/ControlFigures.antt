@@ -85,6 +85,10 @@ firstPasses =
     -- the day-ahead balance: an intraday sale counts not, nor an intraday purchase
     ∷ leaves (sale 1 5 2 100 ∷ entry 1 5 2 0 0 50 ∷ []) (sale 1 5 2 100 ∷ entry 1 5 2 0 0 50 ∷ []) 0
     ∷ leaves (sale 1 5 2 101 ∷ entry 1 5 8 0 0 60 ∷ []) (void 1 5 2 101 ∷ entry 1 5 8 0 0 60 ∷ []) 1
+    -- nor an updated program: sum 12 is kept, whether the update is above it or below (02, T-02)
+    ∷ leaves (sale 1 5 2 101 ∷ entry 1 5 22 0 0 60 ∷ []) (void 1 5 2 101 ∷ entry 1 5 22 0 0 60 ∷ []) 1
+    ∷ leaves (sale 1 5 2 121 ∷ entry 1 5 12 0 0 60 ∷ entry 1 5 22 0 0 90 ∷ []) (void 1 5 2 121 ∷ entry 1 5 12 0 0 60 ∷ entry 1 5 22 0 0 90 ∷ []) 1
+    ∷ leaves (sale 1 5 2 120 ∷ entry 1 5 12 0 0 60 ∷ entry 1 5 22 0 0 50 ∷ []) (sale 1 5 2 120 ∷ entry 1 5 12 0 0 60 ∷ entry 1 5 22 0 0 50 ∷ []) 0
     -- over the book at entry, together: a buyer's lost purchase is not counted, whichever entry stands first
     ∷ leaves (sale 1 5 2 101 ∷ sale 2 5 3 202 ∷ []) (void 1 5 2 101 ∷ sale 2 5 3 202 ∷ []) 1
     ∷ leaves (sale 2 5 3 202 ∷ sale 1 5 2 101 ∷ []) (sale 2 5 3 202 ∷ void 1 5 2 101 ∷ []) 1

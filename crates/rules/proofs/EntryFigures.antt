@@ -12,16 +12,16 @@ use Rattle.rules.specs.Entry.{Record, keyOf, recordOf, recordIn, entryOf
 use Rattle.rules.specs.declared.Entry.{Entry}
 use Rattle.rules.proofs.Worked.{sameNumbers, computed}
 
--- types 1 to 16 are volumes, 17 to 20 money; all but 6 have no counterparty
+-- types 1 to 16 and 22 are volumes, 17 to 20 money; all but 6 have no counterparty
 abbrev volumes : List ℕ
-volumes = 1 ∷ 2 ∷ 3 ∷ 4 ∷ 5 ∷ 6 ∷ 7 ∷ 8 ∷ 9 ∷ 10 ∷ 11 ∷ 12 ∷ 13 ∷ 14 ∷ 15 ∷ 16 ∷ []
+volumes = 1 ∷ 2 ∷ 3 ∷ 4 ∷ 5 ∷ 6 ∷ 7 ∷ 8 ∷ 9 ∷ 10 ∷ 11 ∷ 12 ∷ 13 ∷ 14 ∷ 15 ∷ 16 ∷ 22 ∷ []
 
 abbrev moneys : List ℕ
 moneys = 17 ∷ 18 ∷ 19 ∷ 20 ∷ []
 
 abbrev notBilateral : List ℕ
 notBilateral =
-    1 ∷ 2 ∷ 3 ∷ 4 ∷ 5 ∷ 7 ∷ 8 ∷ 9 ∷ 10 ∷ 11 ∷ 12 ∷ 13 ∷ 14 ∷ 15 ∷ 16 ∷ 17 ∷ 18 ∷ 19 ∷ 20 ∷ []
+    1 ∷ 2 ∷ 3 ∷ 4 ∷ 5 ∷ 7 ∷ 8 ∷ 9 ∷ 10 ∷ 11 ∷ 12 ∷ 13 ∷ 14 ∷ 15 ∷ 16 ∷ 17 ∷ 18 ∷ 19 ∷ 20 ∷ 22 ∷ []
 
 -- the cause of 3 to 7 that a post of these figures has
 abbrev causeIs : ℕ → ℕ → ℕ → ℕ → ℕ → ℕ → Bool
@@ -59,18 +59,23 @@ entryFigures =
     ∷ causeIs 1 0 1 0 5 0
     ∷ causeIs 1 36524 1 0 5 0
     ∷ causeIs 1 36525 1 0 5 4
-    -- types are 1 to 20
+    -- types are 1 to 20 and 22 (02, T-02)
     ∷ causesAre volumes 0 5 0
     ∷ causesAre moneys 0 5 0
-    ∷ causesAre (0 ∷ 21 ∷ 22 ∷ 255 ∷ []) 0 5 5
+    ∷ causesAre (0 ∷ 21 ∷ 23 ∷ 255 ∷ []) 0 5 5
     ∷ every (map isVolume volumes)
     ∷ not (isVolume 0)
     ∷ not (isVolume 17)
+    ∷ not (isVolume 21)
+    ∷ not (isVolume 23)
     ∷ every (map isMoney moneys)
     ∷ not (isMoney 16)
     ∷ not (isMoney 21)
+    ∷ not (isMoney 22)
     ∷ not (isType 0)
     ∷ not (isType 21)
+    ∷ isType 22
+    ∷ not (isType 23)
     -- counterparty is 0 outside type 6; in type 6 it is 0 to 999 and not the party
     ∷ causesAre notBilateral 1 5 6
     ∷ causesAre notBilateral 2 5 6
@@ -81,7 +86,7 @@ entryFigures =
     ∷ causeIs 7 9000 6 7 5 6
     ∷ causeIs 7 9000 6 6 5 0
     ∷ causeIs 999 9000 6 999 5 6
-    -- amounts are 0 to 10^9 for types 1 to 16, 0 to 10^13 for 17 to 20
+    -- amounts are 0 to 10^9 for types 1 to 16 and 22, 0 to 10^13 for 17 to 20
     ∷ causesAre volumes 0 0 0
     ∷ causesAre volumes 0 1000000000 0
     ∷ causesAre volumes 0 1000000001 7
@@ -122,6 +127,9 @@ entryFigures =
     ∷ legal (entry 1 9000 6 0 1 5)
     ∷ not (legal (entry 1 9000 6 0 2 5))
     ∷ not (legal (entry 1 9000 17 0 2 5))
+    ∷ legal (entry 1 9000 22 0 0 5)
+    ∷ legal (entry 1 9000 22 0 1 5)
+    ∷ not (legal (entry 1 9000 22 0 2 5))
     ∷ not (legal (entry 1 9000 1 0 3 5))
     ∷ statusOk (entry 1 9000 6 2 2 5 .label)
     ∷ not (statusOk (entry 1 9000 7 2 2 5 .label))
@@ -129,7 +137,7 @@ entryFigures =
     ∷ not (legal (entry 0 9000 1 0 0 5))
     ∷ not (legal (entry 1 36525 1 0 1 5))
     ∷ not (legal (entry 1 9000 0 0 0 5))
-    ∷ not (legal (entry 1 9000 22 0 0 0))
+    ∷ not (legal (entry 1 9000 23 0 0 0))
     ∷ not (legal (entry 1 9000 1 1 0 5))
     ∷ not (legal (entry 1 9000 6 1 2 5))
     ∷ not (legal (entry 1 9000 6 2 2 1000000001))
@@ -148,6 +156,7 @@ entryFigures =
     ∷ not (markOk (entry 1 9000 1 0 0 0))
     ∷ isMark (entry 0 9000 21 0 0 0)
     ∷ not (isMark (entry 1 9000 20 0 0 0))
+    ∷ not (isMark (entry 1 9000 22 0 0 0))
     -- an entry as code carries it, figure by figure, both ways
     ∷ sameNumbers (heldFigures (entryOf (entry 1 2 3 4 5 6))) (1 ∷ 2 ∷ 3 ∷ 4 ∷ 5 ∷ 6 ∷ [])
     ∷ sameNumbers (heldFigures (entryOf (recordIn held))) (7 ∷ 8 ∷ 9 ∷ 10 ∷ 11 ∷ 12 ∷ [])

@@ -192,13 +192,16 @@ fileCauses =
     ∷ taken (head 1 0 0 ∷ []) 0
     ∷ taken (head 1 0 36524 ∷ []) 0
     ∷ refused 4 noDay
-    -- type 1 to 20, its 8 bits
+    -- type 1 to 20 and 22, its 8 bits
     ∷ refused 5 (head 1 1 5 ∷ line 0 0 7 ∷ [])
     ∷ taken (head 1 1 5 ∷ line 20 0 7 ∷ []) 1
     ∷ refused 5 badType
+    ∷ taken (head 1 1 5 ∷ line 22 0 7 ∷ []) 1
+    ∷ refused 5 (head 1 1 5 ∷ line 23 0 7 ∷ [])
     ∷ refused 5 (head 1 1 5 ∷ line 129 0 7 ∷ [])
     -- counterparty 0 outside type 6; in it 0 to 999 and not the party; its 16 bits
     ∷ refused 6 (head 1 1 5 ∷ line 1 2 7 ∷ [])
+    ∷ refused 6 (head 1 1 5 ∷ line 22 2 7 ∷ [])
     ∷ taken (head 1 1 5 ∷ line 6 0 7 ∷ []) 1
     ∷ taken (head 1 1 5 ∷ line 6 999 7 ∷ []) 1
     ∷ refused 6 (head 1 1 5 ∷ line 6 1000 7 ∷ [])
@@ -208,12 +211,16 @@ fileCauses =
     ∷ taken (oneLine 0x30000010 0x4B9ACA00 0x50000003) 1
     ∷ refused 7 badAmount
     ∷ refused 7 (oneLine 0x30000010 0x44A51000 0x50000E8D)
+    ∷ taken (oneLine 0x30000016 0x4B9ACA00 0x50000003) 1
+    ∷ refused 7 (oneLine 0x30000016 0x4B9ACA01 0x50000003)
+    ∷ refused 7 (oneLine 0x30000016 0x44A51000 0x50000E8D)
     ∷ taken (oneLine 0x30000011 0x4E72A000 0x50009184) 1
     ∷ refused 7 (oneLine 0x30000011 0x4E72A001 0x50009184)
     -- a closed day's bilateral sale; exports, other types, other days and blocks without lines go on
     ∷ refusedIn closed 8 (file (head 3 1 5 ∷ line 6 4 7 ∷ []))
     ∷ refusedIn closed 8 (file (good ++ (head 3 2 5 ∷ line 1 0 7 ∷ line 6 4 7 ∷ [])))
     ∷ answerIs closed (file (head 3 2 5 ∷ line 6 0 7 ∷ line 1 0 7 ∷ [])) 0 2
+    ∷ answerIs closed (file (head 3 1 5 ∷ line 22 0 7 ∷ [])) 0 1
     ∷ answerIs closed (file (head 3 1 6 ∷ line 6 4 7 ∷ [])) 0 1
     ∷ answerIs closed (file (head 3 0 5 ∷ [])) 0 0
     -- within a line or an empty block the lowest number
@@ -273,6 +280,8 @@ filePosts =
     (file (head 258 3 36524 ∷ line 6 999 1 ∷ line 6 256 0xFFFFFFF ∷ (0x30000013 ∷ 0x4E72A000 ∷ 0x50009184 ∷ []) ∷ []))
     (page (entry 258 36524 6 999 0 1 ∷ entry 258 36524 6 256 0 0xFFFFFFF ∷ (0x10000102 ∷ 0x20008EAC ∷ 0x30000013 ∷ 0x4E72A000 ∷ 0x50009184 ∷ []) ∷ []) 0)
     3
+    -- an updated program is posted as any line
+    ∷ posts [] 5 (file (head 1 1 5 ∷ line 22 0 9 ∷ [])) (page (entry 1 5 22 0 0 9 ∷ []) 0) 1
     -- the same block twice is posted twice
     ∷ posts [] 10 (file (good ++ good)) (page (entry 1 5 1 0 0 7 ∷ entry 1 5 1 0 0 7 ∷ []) 0) 2
     -- the words of the sample of 01, one by one

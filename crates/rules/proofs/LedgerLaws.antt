@@ -8,14 +8,14 @@ use native.Mathlib.Nat.{min-comm}
 use native.Mathlib.Omega.{arith}
 use lib.Dec.{eqb, leb, ltb, leb·suc-zero, leb·suc-suc}
 use lib.ListN.{length, getD, set}
-use borrow.Author.Tests.{le-leb, lt-leb, lt-ltb, le-ltb, eq-eqb, ne-eqb}
+use borrow.Author.Tests.{eqb-true, le-leb, lt-leb, lt-ltb, le-ltb, eq-eqb, ne-eqb}
 use Rattle.numbers.specs.Causes.{unless, orElse, firstOf}
-use Rattle.numbers.proofs.TestLaws.{below-or-above, or-cases}
+use Rattle.numbers.proofs.TestLaws.{bool-cases, below-or-above, or-cases}
 use Rattle.numbers.proofs.CauseLaws.{else-none}
-use Rattle.rules.specs.Entry.{Key, Record, recordOf, key, noRecord, within, isType, isStanding, withdrawn, counterpartyOk, amountLimit, fault}
+use Rattle.rules.specs.Entry.{Key, Record, recordOf, key, noRecord, within, isVolume, isMoney, isType, isStanding, withdrawn, counterpartyOk, amountLimit, fault}
 use Rattle.rules.specs.Words.{roomIn}
 use Rattle.rules.specs.Ledger.{post, withdraw, ledgerRoom, causeIf, outside, ledgerFault, standsAt, withdrawnAt, ledgerCause}
-use Rattle.rules.proofs.WordLaws.{within-true}
+use Rattle.rules.proofs.WordLaws.{within-true, volume-range}
 
 pub same-room : (lent : ℕ) → ledgerRoom lent ≡ roomIn lent
 same-room lent = min-comm _ _
@@ -42,16 +42,24 @@ outside-not low high x = rw (above-not x low, above-not high x) (either (leb low
     either true b = refl
     either false b = refl
 
-type-not : (t : ℕ) → outside 1 20 t ≡ not (isType t)
+type-not : (t : ℕ) → outside 1 20 t && not (eqb t 22) ≡ not (isType t)
 type-not t =
-    elim (below-or-above t 17) [
-      | inl h ↦ rw (outside-not 1 20 t, le-leb t 20 (omega arith), le-leb t 16 (omega arith), lt-leb 17 t h) (volume (leb 1 t))
-      | inr h ↦ rw (outside-not 1 20 t, le-leb 1 t (omega arith), lt-leb t 16 h, le-leb 17 t h)
+    elim (bool-cases (eqb t 22)) [
+      | inl q ↦ rw (eqb-true t 22 q)
+      | inr q ↦
+          elim (below-or-above t 17) [
+            | inl h ↦ rw (q, outside-not 1 20 t, le-leb t 20 (omega arith), le-leb t 16 (omega arith), lt-leb 17 t h) (volume (leb 1 t))
+            | inr h ↦ rw (q, outside-not 1 20 t, le-leb 1 t (omega arith), lt-leb t 16 h, le-leb 17 t h) (money (leb t 20))
+          ]
     ]
   where
-    volume : (b : Bool) → not (b && true) ≡ not (b && true || false)
+    volume : (b : Bool) → not (b && true) && true ≡ not ((b && true || false) || false)
     volume true = refl
     volume false = refl
+
+    money : (b : Bool) → not b && true ≡ not b
+    money true = refl
+    money false = refl
 
 nonzero-not : (c : ℕ) → ltb 0 c ≡ not (eqb c 0)
 nonzero-not c =
@@ -72,17 +80,19 @@ one-check false few own false later = refl
 
 -- check 7, of a type in range
 amount-causes : (t a : ℕ) → isType t ≡ true →
-    firstOf (causeIf (leb t 16 && ltb 1000000000 a) 7 ∷ causeIf (leb 17 t && ltb 10000000000000 a) 7 ∷ [])
+    firstOf (causeIf ((leb t 16 || eqb t 22) && ltb 1000000000 a) 7 ∷ causeIf (leb 17 t && leb t 20 && ltb 10000000000000 a) 7 ∷ [])
     ≡ firstOf (unless (leb a (amountLimit t)) 7 ∷ [])
 unfolding amountLimit
 amount-causes t a e =
-    elim (or-cases (within 1 16 t) (within 17 20 t) e) [
+    elim (or-cases (isVolume t) (isMoney t) e) [
       | inl v ↦
-          let h = within-true 1 16 t v in
-          rw (le-leb t 16 (h .1), lt-leb 17 t (omega arith), above-not 1000000000 a, fault-unless (leb a 1000000000) 7)
+          elim (volume-range t v) [
+            | inl h ↦ rw (le-leb t 16 (h .1), lt-leb 17 t (omega arith), above-not 1000000000 a, fault-unless (leb a 1000000000) 7)
+            | inr q ↦ rw (q, above-not 1000000000 a, fault-unless (leb a 1000000000) 7)
+          ]
       | inr m ↦
           let h = within-true 17 20 t m in
-          rw (lt-leb t 16 (omega arith), m, le-leb 17 t (h .0), above-not 10000000000000 a, fault-unless (leb a 10000000000000) 7)
+          rw (lt-leb t 16 (omega arith), ne-eqb t 22 (λ q. omega arith), le-leb 17 t (h .0), le-leb t 20 (h .1), above-not 10000000000000 a, fault-unless (leb a 10000000000000) 7)
     ]
 
 -- a later cause counts only where the test holds

@@ -22,16 +22,16 @@ use Rattle.numbers.proofs.RoundingLaws.{half-up-bound, round-up-bound}
 use Rattle.rules.specs.Refusals.{badParty, badDay, badType, badCounterparty, badAmount, badLength, badFigure}
 use Rattle.rules.specs.Entry.{Key, Label, Record, key, mostVolume, mostMoney, within, isVolume, isMoney, isType, isMark, isStanding, partyOk, dayOk, counterpartyOk, amountLimit, fault, markOk, statusOk, legal}
 use Rattle.rules.specs.Words.{mostEntries, mostCoefficient, mostTolerance}
-use Rattle.rules.specs.Balance.{Volume, dayAhead, delivery, counted, countedTo, sumOf, boughtBy, tallyOf, saleTypes, coverTypes, saleSide, coverSide, balanceOf, balance}
+use Rattle.rules.specs.Balance.{Volume, dayAhead, delivery, counted, countedTo, sumOf, boughtBy, tallyOf, saleTypes, coverTypes, programUsed, saleSide, coverSide, balanceOf, balance}
 use Rattle.rules.specs.Month.{Tables, monthCause, weightedPrices, weights, aosmf, aedm, hours, mostHours, mostRows, mostPrice, volumeOk, priceAt, imbalanceAt, dmAt}
 use Rattle.rules.specs.Collateral.{Money, debtOf, debts, moneyOf, tradingDays, debt, quarters, generation, generationMargin, margin, trading, usedMonths, highestPrice, lowestVolume, imbalanceOver, imbalance, risk, yek, totalOf, monthOk, figuresOk}
 use Rattle.rules.specs.declared.Month.{Month}
 use Rattle.rules.specs.declared.Case.{Case}
-use Rattle.rules.proofs.SumOrder.{picked, forTests, toTests, CountsFor, counts-for, counts-to, sale-sums, cover-sums}
-use Rattle.rules.proofs.WordLaws.{within-true}
+use Rattle.rules.proofs.SumOrder.{picked, forTests, toTests, CountsFor, counts-for, counts-to, sale-sums, cover-sums, program-delivery, program-ahead}
+use Rattle.rules.proofs.WordLaws.{within-true, volume-range}
 
 -- what a legal record holds is within the limit of its type
-fault-amount : (k : Key) (a : ℕ) → fault k a ≡ 0 → a ≤ amountLimit (k .type)
+pub fault-amount : (k : Key) (a : ℕ) → fault k a ≡ 0 → a ≤ amountLimit (k .type)
 unfolding fault
 fault-amount k a e =
     let h =
@@ -44,9 +44,9 @@ fault-amount k a e =
     ∷ []) e in
     leb-true _ _ (unless-zero _ _ (h .1 .1 .1 .1 .0))
 
-pub mark-amount : (r : Record) → markOk r ≡ true → r .amount ≡ 0
+pub mark-facts : (r : Record) → markOk r ≡ true → (key r .type ≡ 21) × (r .amount ≡ 0)
 unfolding markOk
-mark-amount r e =
+mark-facts r e =
     let h =
     every-holds
     (isMark r
@@ -56,14 +56,14 @@ mark-amount r e =
     ∷ eqb (r .amount) 0
     ∷ isStanding r
     ∷ []) e in
-    eqb-true _ _ (h .1 .1 .1 .1 .0)
+    (eqb-true _ _ (h .0), eqb-true _ _ (h .1 .1 .1 .1 .0))
 
 pub legal-amount : (r : Record) → legal r ≡ true → r .amount ≤ amountLimit (key r .type)
 unfolding legal
 legal-amount r e =
     elim (or-cases (eqb (fault (key r) (r .amount)) 0 && statusOk (r .label)) (markOk r) e) [
       | inl h ↦ fault-amount (key r) (r .amount) (eqb-true _ _ (and-split (eqb (fault (key r) (r .amount)) 0) _ h .0))
-      | inr h ↦ rw (mark-amount r h) zero-le
+      | inr h ↦ rw (mark-facts r h .1) zero-le
     ]
 
 pub money-limit : (t : ℕ) → amountLimit t ≤ mostMoney
@@ -72,7 +72,7 @@ money-limit t = cond-limit (isMoney t) (λ e. le-refl mostMoney) (λ e. omega ar
 
 pub volume-limit : (t : ℕ) → isVolume t ≡ true → amountLimit t ≡ mostVolume
 unfolding amountLimit
-volume-limit t e = let h = within-true 1 16 t e in rw (lt-leb 17 t (omega arith))
+volume-limit t e = elim (volume-range t e) [ inl h ↦ rw (lt-leb 17 t (omega arith)) | inr q ↦ rw q ]
 
 -- the sums of a book
 picked-limit : (f : Label → Bool) (k : ℕ) (r : Record) → (f (r .label) ≡ true → r .amount ≤ k) → picked f r ≤ k
@@ -112,7 +112,7 @@ early-mono d r =
       | inr e ↦ omega (arith, early-none d r (ltb-false (key r .day) d e))
     ]
 
-counted-cases : (p d t : ℕ) (r : Record) → (counted p d t r ≡ 0) ⊎ (CountsFor p d t (r .label) × (counted p d t r ≡ r .amount))
+pub counted-cases : (p d t : ℕ) (r : Record) → (counted p d t r ≡ 0) ⊎ (CountsFor p d t (r .label) × (counted p d t r ≡ r .amount))
 unfolding counted
 counted-cases p d t r =
     elim (bool-cases (every (forTests p d t (r .label)))) [
@@ -168,7 +168,7 @@ unfolding all
 cover-volumes delivery = refl
 cover-volumes dayAhead = refl
 
-few-covers : (v : Volume) → length (coverTypes v) ≤ 8
+few-covers : (v : Volume) → length (coverTypes v) ≤ 7
 few-covers delivery = omega arith
 few-covers dayAhead = omega arith
 
@@ -193,6 +193,10 @@ module _ (rs : List Record) (ok : all legal rs ≡ true) (few : length rs ≤ mo
   sale-limit v p d =
       omega (arith, sale-sums v p d rs, types-sum p d (saleTypes v) (sale-volumes v), few-sales v)
 
+  program-limit : (v : Volume) (p d : ℕ) → programUsed v (tallyOf p d rs) ≤ mostEntries * mostVolume
+  program-limit delivery p d = omega (arith, program-delivery p d rs, volume-sum p d 12 refl, volume-sum p d 22 refl)
+  program-limit dayAhead p d = omega (arith, program-ahead p d rs, volume-sum p d 12 refl)
+
   pub cover-limit : (v : Volume) (p d : ℕ) → coverSide v (tallyOf p d rs) (boughtBy p d rs) ≤ 30720000000000
   cover-limit v p d =
       omega (
@@ -200,6 +204,7 @@ module _ (rs : List Record) (ok : all legal rs ≡ true) (few : length rs ≤ mo
         cover-sums v p d (boughtBy p d rs) rs,
         types-sum p d (coverTypes v) (cover-volumes v),
         few-covers v,
+        program-limit v p d,
         bought-sum p d,
         volume-sum p d 15 refl,
         volume-sum p d 16 refl,

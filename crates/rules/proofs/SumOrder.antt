@@ -15,8 +15,8 @@ use Rattle.numbers.proofs.TestLaws.{bool-cases, every-holds}
 use Rattle.numbers.proofs.SignedLaws.{sub-mono}
 use Rattle.numbers.proofs.SumLaws.{total-le-where}
 use Rattle.rules.specs.Entry.{Label, Record, key, isExport, bilateral, standing, within}
-use Rattle.rules.specs.Balance.{Volume, dayAhead, delivery, counted, countedTo, sumOf, boughtBy, tallyOf, acquired, saleTypes, coverTypes, saleSide, coverSide, balanceOf, balance}
-use Rattle.rules.specs.Compared.{Each, SameLabel, NoWorse, SameWhereNamed, Sum, none, added, passed, IsMoney}
+use Rattle.rules.specs.Balance.{Volume, dayAhead, delivery, counted, countedTo, sumOf, boughtBy, tallyOf, acquired, saleTypes, coverTypes, programUsed, saleSide, coverSide, balanceOf, balance}
+use Rattle.rules.specs.Compared.{Each, CoverType, SameLabel, NoWorse, SameWhereNamed, Sum, none, added, passed, IsMoney}
 use Rattle.rules.proofs.WordLaws.{within-true}
 
 -- records of equal number have equal keys and statuses
@@ -132,10 +132,18 @@ sale-sums delivery p d rs = refl
 sale-sums dayAhead p d rs = refl
 
 pub cover-sums : (v : Volume) (p d B : ℕ) (rs : List Record) →
-    coverSide v (tallyOf p d rs) B ≡ total (λ t. sumOf p d t rs) (coverTypes v) + (B + max (sumOf p d 15 rs) (sumOf p d 16 rs))
+    coverSide v (tallyOf p d rs) B ≡ total (λ t. sumOf p d t rs) (coverTypes v) + programUsed v (tallyOf p d rs) + (B + max (sumOf p d 15 rs) (sumOf p d 16 rs))
 unfolding coverSide tallyOf acquired total
 cover-sums delivery p d B rs = refl
 cover-sums dayAhead p d B rs = refl
+
+pub program-delivery : (p d : ℕ) (rs : List Record) → programUsed delivery (tallyOf p d rs) ≡ max (sumOf p d 12 rs) (sumOf p d 22 rs)
+unfolding programUsed tallyOf
+program-delivery p d rs = refl
+
+pub program-ahead : (p d : ℕ) (rs : List Record) → programUsed dayAhead (tallyOf p d rs) ≡ sumOf p d 12 rs
+unfolding programUsed tallyOf
+program-ahead p d rs = refl
 
 pub sale-range : (v : Volume) → all (within 1 6) (saleTypes v) ≡ true
 unfolding all
@@ -154,10 +162,10 @@ module _ (p d : ℕ) (rs ss : List Record) (tw : Twins rs ss) (each : Each (NoWo
       sum-related no-larger (NoWorse p d) rs ss tw each p d t
       λ r s q c. q .0 (c .standing) (c .party, c .day, omega arith, omega arith)
 
-  pub higher-cover : (t : ℕ) → 7 ≤ t → t ≤ 16 → sumOf p d t rs ≤ sumOf p d t ss
-  higher-cover t low high =
+  pub higher-cover : (t : ℕ) → CoverType t → sumOf p d t rs ≤ sumOf p d t ss
+  higher-cover t h =
       sum-related no-smaller (NoWorse p d) rs ss tw each p d t
-      λ r s q c. q .1 (c .standing) (inl (c .party, c .day, omega arith, omega arith))
+      λ r s q c. q .1 (c .standing) (inl (c .party, c .day, rw (c .type) h))
 
   pub higher-bought : boughtBy p d rs ≤ boughtBy p d ss
   higher-bought =
@@ -169,18 +177,24 @@ module _ (p d : ℕ) (rs ss : List Record) (tw : Twins rs ss) (each : Each (NoWo
       rw (sale-sums v p d ss, sale-sums v p d rs)
       (total-le-where (within 1 6) (λ t. sumOf p d t ss) (λ t. sumOf p d t rs) (λ t e. let (a, b) = within-true 1 6 t e in lower-sales t a b) (saleTypes v) (sale-range v))
 
+  higher-program : (v : Volume) → programUsed v (tallyOf p d rs) ≤ programUsed v (tallyOf p d ss)
+  higher-program delivery =
+      omega (arith, program-delivery p d rs, program-delivery p d ss, higher-cover 12 (inl (omega arith)), higher-cover 22 (inr refl))
+  higher-program dayAhead = omega (arith, program-ahead p d rs, program-ahead p d ss, higher-cover 12 (inl (omega arith)))
+
   higher-cover-side : (v : Volume) → coverSide v (tallyOf p d rs) (boughtBy p d rs) ≤ coverSide v (tallyOf p d ss) (boughtBy p d ss)
   higher-cover-side v =
       let low : total (λ t. sumOf p d t rs) (coverTypes v) ≤ total (λ t. sumOf p d t ss) (coverTypes v) =
       total-le-where (within 7 14) (λ t. sumOf p d t rs) (λ t. sumOf p d t ss)
-      (λ t e. let (a, b) = within-true 7 14 t e in higher-cover t a (omega arith)) (coverTypes v) (cover-range v) in
+      (λ t e. let (a, b) = within-true 7 14 t e in higher-cover t (inl (omega arith))) (coverTypes v) (cover-range v) in
       omega (
         arith,
         cover-sums v p d (boughtBy p d rs) rs,
         cover-sums v p d (boughtBy p d ss) ss,
+        higher-program v,
         higher-bought,
-        higher-cover 15 (omega arith) (omega arith),
-        higher-cover 16 (omega arith) (omega arith),
+        higher-cover 15 (inl (omega arith)),
+        higher-cover 16 (inl (omega arith)),
       )
 
   pub lower-balance : (v : Volume) (R TM : ℕ) → balance v R TM p d ss ≤ℤ balance v R TM p d rs

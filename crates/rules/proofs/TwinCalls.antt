@@ -1,13 +1,13 @@
 -- A ledger against a ledger: lists alike but for legal amounts are answered alike, and leave twins. Assumes nothing.
 use mathlib.Core.Path.{_≡_, refl, sym, ap}
 use mathlib.Core.Logic.{inl, inr}
-use mathlib.Core.Bool.{false, _&&_}
+use mathlib.Core.Bool.{false, _&&_, _||_, and-false}
 use mathlib.Core.List.{List, [], _∷_}
 use Prim.Native.Nat.{ℕ, zero, suc}
 use native.Mathlib.Omega.{arith}
 use lib.Dec.{eqb, leb, ltb}
 use lib.ListN.{length}
-use borrow.Author.Tests.{le-leb, lt-leb, le-ltb}
+use borrow.Author.Tests.{lt-leb, le-ltb, ne-eqb}
 use Rattle.rules.specs.Entry.{Key, Record, recordOf, key}
 use Rattle.rules.specs.Ledger.{Call, post, withdraw, ledger, ledgerFault, standsAt, withdrawnAt, ledgerCause, ledgerDone}
 use Rattle.rules.specs.Compared.{InRange, AlikeCalls, equal, amounts, SameLabel}
@@ -16,9 +16,15 @@ use Rattle.rules.proofs.SumOrder.{Twins}
 use Rattle.rules.proofs.Machine.{Agree}
 
 -- an amount in range for its type passes check 7
-in-range : (t a : ℕ) → InRange t a → (leb t 16 && ltb 1000000000 a ≡ false) × (leb 17 t && ltb 10000000000000 a ≡ false)
-in-range t a (inl h) = (rw (le-leb t 16 (h .1)) (le-ltb 1000000000 a (h .2)), rw (lt-leb 17 t (omega arith)))
-in-range t a (inr h) = (rw (lt-leb t 16 (omega arith)), rw (le-leb 17 t (h .0)) (le-ltb 10000000000000 a (h .2)))
+in-range : (t a : ℕ) → InRange t a → ((leb t 16 || eqb t 22) && ltb 1000000000 a ≡ false) × (leb 17 t && leb t 20 && ltb 10000000000000 a ≡ false)
+in-range t a (inl h) = (
+  rw (le-ltb 1000000000 a (h .1)) (and-false (leb t 16 || eqb t 22)),
+  elim (h .0) [ inl v ↦ rw (lt-leb 17 t (omega arith)) | inr q ↦ rw q ],
+)
+in-range t a (inr h) = (
+  rw (lt-leb t 16 (omega arith), ne-eqb t 22 (λ q. omega arith)),
+  rw (le-ltb 10000000000000 a (h .2)) (and-false (leb 17 t && leb t 20)),
+)
 
 fault-alike : (k : Key) (a b : ℕ) → InRange (k .type) a → InRange (k .type) b → ledgerFault k a ≡ ledgerFault k b
 unfolding ledgerFault

@@ -128,6 +128,8 @@ wordFigures =
     -- type, counterparty and status; bits 26 and 27 have no name
     ∷ not (isBookWith 5 0x30000000)
     ∷ not (isBookWith 5 0x30000015)
+    ∷ isBookWith 5 0x30000016
+    ∷ not (isBookWith 5 0x30000017)
     ∷ not (isBookWith 5 0x30000101)
     ∷ isBookWith 5 0x30000206
     ∷ not (isBookWith 5 0x30000106)
@@ -144,6 +146,9 @@ wordFigures =
     ∷ not (isBookOf 0x30000001 0x4B9ACA01 0x50000003)
     ∷ not (isBookOf 0x30000001 0x40000000 0x50000004)
     ∷ not (isBookOf 0x30000010 0x44A51000 0x50000E8D)
+    ∷ isBookOf 0x30000016 0x4B9ACA00 0x50000003
+    ∷ not (isBookOf 0x30000016 0x4B9ACA01 0x50000003)
+    ∷ not (isBookOf 0x30000016 0x44A51000 0x50000E8D)
     ∷ isBookOf 0x30000011 0x4E72A000 0x50009184
     ∷ not (isBookOf 0x30000011 0x4E72A001 0x50009184)
     ∷ not (isBookOf 0x30000011 0x40000000 0x50009185)

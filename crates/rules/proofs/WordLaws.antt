@@ -1,6 +1,6 @@
 -- Laws of the words of a book: an entry's five words, lists of entries, and the whole book. Assumes nothing.
 use mathlib.Core.Path.{_≡_, refl, sym, ap, ap₂, _∙_}
-use mathlib.Core.Logic.{inl, inr}
+use mathlib.Core.Logic.{_⊎_, _≢_, inl, inr}
 use mathlib.Core.Bool.{Bool, true, false, not, cond, _&&_}
 use mathlib.Core.List.{List, [], _∷_, _++_, append-assoc}
 use Prim.Native.Nat.{ℕ, zero, suc, _+_, _-_, _*_, _/_, _%_, _≤_, _<_}
@@ -30,7 +30,8 @@ pub record Faultless (k : Key) (a : ℕ) : Type 0 where
   pub party : k .party ≤ 999
   pub day : k .day ≤ 36524
   pub type-above : 1 ≤ k .type
-  pub type : k .type ≤ 20
+  pub type : k .type ≤ 22
+  pub no-mark : k .type ≢ 21
   pub counterparty : k .counterparty ≤ 999
   pub amount : a ≤ mostMoney
 
@@ -39,9 +40,17 @@ within-true low high x e =
     let s = and-split (leb low x) (leb x high) e in
     (leb-true low x (s .0), leb-true x high (s .1))
 
-pub type-range : (t : ℕ) → isType t ≡ true → (1 ≤ t) × (t ≤ 20)
+-- the types: an interval, and type 22; none is a mark's
+pub volume-range : (t : ℕ) → isVolume t ≡ true → ((1 ≤ t) × (t ≤ 16)) ⊎ (t ≡ 22)
+volume-range t e =
+    elim (or-cases (within 1 16 t) (eqb t 22) e) [ inl v ↦ inl (within-true 1 16 t v) | inr u ↦ inr (eqb-true t 22 u) ]
+
+pub type-range : (t : ℕ) → isType t ≡ true → (1 ≤ t) × (t ≤ 22) × (t ≢ 21)
 type-range t e =
-    elim (or-cases (isVolume t) (isMoney t) e) [ inl v ↦ (let s = within-true 1 16 t v in omega arith) | inr m ↦ (let s = within-true 17 20 t m in omega arith) ]
+    elim (or-cases (isVolume t) (isMoney t) e) [
+      | inl v ↦ elim (volume-range t v) [ inl s ↦ omega arith | inr q ↦ omega arith ]
+      | inr m ↦ (let s = within-true 17 20 t m in omega arith)
+    ]
 
 pub counterparty-range : (k : Key) → counterpartyOk k ≡ true → k .counterparty ≤ 999
 unfolding counterpartyOk
@@ -74,7 +83,7 @@ no-fault k a e =
 pub record Bounds (r : Record) : Type 0 where
   pub party : key r .party ≤ 999
   pub day : key r .day ≤ 36524
-  pub type : key r .type ≤ 21
+  pub type : key r .type ≤ 22
   pub counterparty : key r .counterparty ≤ 999
   pub status : r .label .status ≤ 2
   pub amount : r .amount ≤ mostMoney

@@ -16,7 +16,7 @@ use Rattle.calendar.specs.Calendar.{Date, dateOf, monthOf, monthFrom, monthStar
 use Rattle.rules.specs.Entry.{Key, keyOf, statusWhere, counterpartyOk, amountLimit, fault, markOk, statusOk, legal}
 use Rattle.rules.specs.Words.{encode, decode, entryOk, entriesOk, readEntries, isBook, entries, encodeAll, usedWords, laid}
 use Rattle.rules.specs.Book.{openCause, openWords, openDefaultWords, isClosed, shutTo, postRefusal, entryAt, withdrawRefusal, withdrawnAt}
-use Rattle.rules.specs.Balance.{Volume, dayAhead, delivery, counted, countedTo, sumOf, boughtBy, tallyOf, acquired, saleSide, coverSide, balanceOf, balance, isDetected, partyDayCause, balanceAnswer, tallyAnswer}
+use Rattle.rules.specs.Balance.{Volume, dayAhead, delivery, counted, countedTo, sumOf, boughtBy, tallyOf, acquired, programUsed, saleSide, coverSide, balanceOf, balance, isDetected, partyDayCause, balanceAnswer, tallyAnswer}
 use Rattle.rules.specs.Month.{Tables, monthCause, weightedPrices, weights, aosmf, aedm, monthFigures, monthAnswer}
 use Rattle.rules.specs.Collateral.{noMonth, plainCase, generationMargin, margin, tradingDays, debtOf, debts, debt, quarters, trading, highestPrice, lowestVolume, imbalanceOver, imbalance, risk, yek, totalOf, monthOk, figuresOk, collateralCause, collateralOf, collateralAnswer}
 use Rattle.rules.specs.CaseFigures.{withParty, withDay, withLicence, withCapacity, withNonbusiness, withHoliday, withDefaults, withResponsible, withMonths, withUsed, withRk, withRt, withYt, withScore, withBest}
@@ -208,5 +208,5 @@ oneDay = controlWords (book (chain 9000)) 9000
 
 -- what the lists compute with: to unfold `computed` is to unfold all of these
 unfoldable pub computed : Unit {0}
-unfolding statusWhere sum total count countBelow all any halfUp roundUp sumℤ dateOf monthOf monthFrom monthStart monthLength daysIn leapDays isLeap counterpartyOk amountLimit fault markOk statusOk legal encode decode entryOk entriesOk readEntries isBook entries encodeAll usedWords laid openCause openWords isClosed shutTo entryAt counted countedTo sumOf boughtBy tallyOf acquired saleSide coverSide balanceOf balance isDetected partyDayCause balanceAnswer tallyAnswer monthCause weightedPrices weights aosmf aedm monthFigures monthAnswer generationMargin margin tradingDays debtOf debts debt quarters trading highestPrice lowestVolume imbalanceOver imbalance risk yek totalOf monthOk figuresOk collateralCause collateralOf collateralAnswer isRecordable ceilingCause ceilingAnswer firstDayCause firstDayAnswer detectedIn isToCancel cancelOf isRepeatedBuyer firstPass afterFirst secondPass afterSecond markOf controlledRecords detectedParties cancelledEntries wordsOf isShaped isFile itemsFrom items itemCause linesOf itemNames fileNames after answers bookAfter bookAnswers postRefusal withdrawRefusal withdrawnAt controlRefusal fileRefusal leavesOf figuresOf refusal figuresOn changed causeOf figuresAt wordsAfter
+unfolding statusWhere sum total count countBelow all any halfUp roundUp sumℤ dateOf monthOf monthFrom monthStart monthLength daysIn leapDays isLeap counterpartyOk amountLimit fault markOk statusOk legal encode decode entryOk entriesOk readEntries isBook entries encodeAll usedWords laid openCause openWords isClosed shutTo entryAt counted countedTo sumOf boughtBy tallyOf acquired programUsed saleSide coverSide balanceOf balance isDetected partyDayCause balanceAnswer tallyAnswer monthCause weightedPrices weights aosmf aedm monthFigures monthAnswer generationMargin margin tradingDays debtOf debts debt quarters trading highestPrice lowestVolume imbalanceOver imbalance risk yek totalOf monthOk figuresOk collateralCause collateralOf collateralAnswer isRecordable ceilingCause ceilingAnswer firstDayCause firstDayAnswer detectedIn isToCancel cancelOf isRepeatedBuyer firstPass afterFirst secondPass afterSecond markOf controlledRecords detectedParties cancelledEntries wordsOf isShaped isFile itemsFrom items itemCause linesOf itemNames fileNames after answers bookAfter bookAnswers postRefusal withdrawRefusal withdrawnAt controlRefusal fileRefusal leavesOf figuresOf refusal figuresOn changed causeOf figuresAt wordsAfter
 computed = tt

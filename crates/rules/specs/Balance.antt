@@ -10,7 +10,7 @@ use Rattle.numbers.specs.Tests.{every}
 use Rattle.numbers.specs.Causes.{unless, firstOf, ifDone}
 use Rattle.numbers.specs.Signed.{isPositive}
 use Rattle.rules.specs.Refusals.{notABook, badParty, badDay}
-use Rattle.rules.specs.Entry.{Record, key, isStanding, isExport, bilateral, partyOk, dayOk}
+use Rattle.rules.specs.Entry.{Record, key, isStanding, isExport, bilateral, updatedProgram, partyOk, dayOk}
 use Rattle.rules.specs.Words.{isBook, entries, coefficientOf, toleranceOf}
 use Rattle.rules.specs.declared.Tally.{Tally}
 use Rattle.rules.specs.declared.TallyAnswer.{TallyAnswer}
@@ -49,16 +49,16 @@ sumOf p d t rs = total (counted p d t) rs
 unfoldable pub boughtBy : ℕ → ℕ → List Record → ℕ
 boughtBy p d rs = total (countedTo p d) rs
 
--- one sum for each volume type
+-- one sum for each volume type, that of type 22 last (02, T-02)
 abbrev pub volumeTypes : List ℕ
-volumeTypes = 1 ∷ 2 ∷ 3 ∷ 4 ∷ 5 ∷ 6 ∷ 7 ∷ 8 ∷ 9 ∷ 10 ∷ 11 ∷ 12 ∷ 13 ∷ 14 ∷ 15 ∷ 16 ∷ []
+volumeTypes = 1 ∷ 2 ∷ 3 ∷ 4 ∷ 5 ∷ 6 ∷ 7 ∷ 8 ∷ 9 ∷ 10 ∷ 11 ∷ 12 ∷ 13 ∷ 14 ∷ 15 ∷ 16 ∷ 22 ∷ []
 
 -- the number of sums, and the place of a type's sum, counted from 0
 abbrev pub sumCount : ℕ
-sumCount = 16
+sumCount = 17
 
 abbrev pub sumPlace : ℕ → ℕ
-sumPlace t = t - 1
+sumPlace t = cond (eqb t updatedProgram) 16 (t - 1)
 
 unfoldable pub tallyOf : ℕ → ℕ → List Record → Tally
 tallyOf p d rs = record { party = p; sums = map (λ t. sumOf p d t rs) volumeTypes }
@@ -78,15 +78,21 @@ abbrev pub saleTypes : Volume → List ℕ
 saleTypes delivery = 1 ∷ 2 ∷ 3 ∷ 4 ∷ 5 ∷ 6 ∷ []
 saleTypes dayAhead = 1 ∷ 3 ∷ 4 ∷ 6 ∷ []
 
+-- cover but for the generation program and A
 abbrev pub coverTypes : Volume → List ℕ
-coverTypes delivery = 7 ∷ 8 ∷ 9 ∷ 10 ∷ 11 ∷ 12 ∷ 13 ∷ 14 ∷ []
-coverTypes dayAhead = 7 ∷ 9 ∷ 10 ∷ 12 ∷ 13 ∷ 14 ∷ []
+coverTypes delivery = 7 ∷ 8 ∷ 9 ∷ 10 ∷ 11 ∷ 13 ∷ 14 ∷ []
+coverTypes dayAhead = 7 ∷ 9 ∷ 10 ∷ 13 ∷ 14 ∷ []
+
+-- the generation program used: delivery takes the larger of sums 12 and 22, the day-ahead keeps sum 12 (02, T-02)
+unfoldable pub programUsed : Volume → Tally → ℕ
+programUsed delivery t = max (sumNo t 12) (sumNo t 22)
+programUsed dayAhead t = sumNo t 12
 
 unfoldable pub saleSide : Volume → Tally → ℕ
 saleSide v t = total (sumNo t) (saleTypes v)
 
 unfoldable pub coverSide : Volume → Tally → ℕ → ℕ
-coverSide v t B = total (sumNo t) (coverTypes v) + acquired t B
+coverSide v t B = total (sumNo t) (coverTypes v) + programUsed v t + acquired t B
 
 -- 100 × S − the larger of 100 × TM and C × R
 unfoldable pub balanceOf : Volume → ℕ → ℕ → Tally → ℕ → ℤ

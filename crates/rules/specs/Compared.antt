@@ -19,9 +19,16 @@ module _ {A : Type 0} (P : A → A → Type 0) where
   Each (x ∷ xs) [] = ⊥
   Each (x ∷ xs) (y ∷ ys) = P x y × Each xs ys
 
+-- the types of volumes are 1-16 and 22 (02, T-02), those of cover 7-16 and 22
+abbrev pub VolumeType : ℕ → Type 0
+VolumeType t = ((1 ≤ t) × (t ≤ 16)) ⊎ (t ≡ 22)
+
+abbrev pub CoverType : ℕ → Type 0
+CoverType t = ((7 ≤ t) × (t ≤ 16)) ⊎ (t ≡ 22)
+
 -- an amount in range for its type
 abbrev pub InRange : ℕ → ℕ → Type 0
-InRange t a = ((1 ≤ t) × (t ≤ 16) × (a ≤ 1000000000)) ⊎ ((17 ≤ t) × (t ≤ 20) × (a ≤ 10000000000000))
+InRange t a = (VolumeType t × (a ≤ 1000000000)) ⊎ ((17 ≤ t) × (t ≤ 20) × (a ≤ 10000000000000))
 
 -- two calls alike: equal, or posts whose two amounts are both in range
 pub data AlikeCalls : Call → Call → Type 0 where
@@ -32,7 +39,7 @@ pub data AlikeCalls : Call → Call → Type 0 where
 abbrev pub SameLabel : Record → Record → Type 0
 SameLabel r s = r .label ≡ s .label
 
--- a party's sales of a day are its standing types 1-6, its cover its types 7-16 and others' type 6 to it
+-- a party's sales of a day are its standing types 1-6, its cover its types 7-16 and 22 and others' type 6 to it
 abbrev pub Standing : Record → Type 0
 Standing r = r .label .status ≡ 0
 
@@ -41,7 +48,7 @@ Sale p d r = (key r .party ≡ p) × (key r .day ≡ d) × (1 ≤ key r .type) �
 
 abbrev pub Cover : ℕ → ℕ → Record → Type 0
 Cover p d r =
-    ((key r .party ≡ p) × (key r .day ≡ d) × (7 ≤ key r .type) × (key r .type ≤ 16))
+    ((key r .party ≡ p) × (key r .day ≡ d) × CoverType (key r .type))
     ⊎ ((key r .type ≡ 6) × (key r .counterparty ≡ p) × (key r .day ≡ d))
 
 -- records of equal number: a sale no larger in the second book, an item of cover no smaller

@@ -60,8 +60,12 @@ within low high x = leb low x && leb x high
 abbrev pub bilateral : ℕ
 bilateral = 6
 
+-- the updated generation program (02, T-02): a volume
+abbrev pub updatedProgram : ℕ
+updatedProgram = 22
+
 abbrev pub isVolume : ℕ → Bool
-isVolume t = within 1 16 t
+isVolume t = within 1 16 t || eqb t updatedProgram
 
 abbrev pub isMoney : ℕ → Bool
 isMoney t = within 17 20 t

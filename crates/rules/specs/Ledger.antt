@@ -49,20 +49,20 @@ abbrev pub outside : ℕ → ℕ → ℕ → Bool
 outside low high x = ltb x low || ltb high x
 
 -- the lowest cause of 3 to 7 that holds (01, 'Entry types' and 'Why a call comes back'):
--- party outside 1-999; day above 36,524; type outside 1-20;
+-- party outside 1-999; day above 36,524; type outside 1-20 and not 22 (02, T-02);
 -- a counterparty outside type 6, in type 6 one above 999 or the party itself;
--- an amount above 10^9 in types 1-16, above 10^13 in types 17-20 (02, T-06)
+-- an amount above 10^9 in types 1-16 and 22, above 10^13 in types 17-20 (02, T-06)
 unfoldable pub ledgerFault : Key → ℕ → ℕ
 ledgerFault k a =
     firstOf
     (causeIf (outside 1 999 (k .party)) 3
     ∷ causeIf (ltb 36524 (k .day)) 4
-    ∷ causeIf (outside 1 20 (k .type)) 5
+    ∷ causeIf (outside 1 20 (k .type) && not (eqb (k .type) 22)) 5
     ∷ causeIf (not (eqb (k .type) 6) && ltb 0 (k .counterparty)) 6
     ∷ causeIf (eqb (k .type) 6 && ltb 999 (k .counterparty)) 6
     ∷ causeIf (eqb (k .type) 6 && eqb (k .counterparty) (k .party)) 6
-    ∷ causeIf (leb (k .type) 16 && ltb 1000000000 a) 7
-    ∷ causeIf (leb 17 (k .type) && ltb 10000000000000 a) 7
+    ∷ causeIf ((leb (k .type) 16 || eqb (k .type) 22) && ltb 1000000000 a) 7
+    ∷ causeIf (leb 17 (k .type) && leb (k .type) 20 && ltb 10000000000000 a) 7
     ∷ [])
 
 -- a record has this number, counted from 0, and is standing: its status is 0

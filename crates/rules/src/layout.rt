@@ -52,6 +52,8 @@ pub const BILATERAL: u32 = 6;
 
 pub const MARK: u32 = 21;
 
+pub const UPDATED_PROGRAM: u32 = 22;
+
 pub const STANDING: u32 = 0;
 
 pub const WITHDRAWN: u32 = 1;

@@ -57,9 +57,9 @@ pub struct BalanceAnswer {
 }
 
 // The sums of a tally: one for each volume type.
-pub const SUMS: usize = 16;
+pub const SUMS: usize = 17;
 
-// A party's sums of a day, one for each volume type, 1 to 16.
+// A party's sums of a day, one for each volume type: 1 to 16, and 22 last.
 #[repr(C)]
 pub struct Tally {
     pub party: u32,

@@ -16,9 +16,10 @@ use Rattle.numbers.specs.Sums.{total}
 use Rattle.numbers.proofs.TestLaws.{bool-cases}
 use Rattle.numbers.proofs.SignedLaws.{sub-above, sub-below}
 use Rattle.rules.specs.Words.{mostCoefficient}
-use Rattle.rules.specs.Balance.{Volume, dayAhead, delivery, acquired, saleSide, coverSide, balanceOf}
+use Rattle.rules.specs.Balance.{Volume, dayAhead, delivery, acquired, programUsed, saleSide, coverSide, balanceOf}
 use Rattle.rules.specs.declared.Tally.{Tally}
 use Rattle.tally.specs.Bounded.{mostSum, SumsWithin}
+use Rattle.tally.specs.Sides.{coverWith}
 
 minus : (a b : ℕ) → pos a -ℤ pos b ≡ subℕ a b
 minus a zero = rw (sub-above a 0 (omega arith), add-zero a, sub-zero a)
@@ -44,7 +45,7 @@ less-larger x a b e q = rw e at q
 pub products : {s c R : ℕ} → s ≤ 6 * mostSum → c ≤ 10 * mostSum → R ≤ mostCoefficient → (s * R ≤ 18432000000000000) × (c * R ≤ 30720000000000000)
 products hs hc hr = (mul-le-mul hs hr, mul-le-mul hc hr)
 
--- the sixteen sums, each by its number
+-- the seventeen sums, each by its number
 pub record EachSum (s : List ℕ) : Type 0 where
   pub sum-1 : getD s 0 0 ≤ mostSum
   pub sum-2 : getD s 1 0 ≤ mostSum
@@ -62,6 +63,7 @@ pub record EachSum (s : List ℕ) : Type 0 where
   pub sum-14 : getD s 13 0 ≤ mostSum
   pub sum-15 : getD s 14 0 ≤ mostSum
   pub sum-16 : getD s 15 0 ≤ mostSum
+  pub sum-22 : getD s 16 0 ≤ mostSum
 
 pub each-sum : (t : Tally) → SumsWithin (t .sums) → EachSum (t .sums)
 each-sum t h =
@@ -82,23 +84,29 @@ each-sum t h =
       sum-14 = h 13 (omega arith);
       sum-15 = h 14 (omega arith);
       sum-16 = h 15 (omega arith);
+      sum-22 = h 16 (omega arith);
     }
 
 pub sale-within : (t : Tally) → EachSum (t .sums) → saleSide dayAhead t ≤ 4 * mostSum
 unfolding saleSide total
 sale-within t e = omega arith
 
-pub cover-within : (t : Tally) (B : ℕ) → EachSum (t .sums) → B ≤ mostSum → coverSide dayAhead t B ≤ 8 * mostSum
-unfolding coverSide acquired total
-cover-within t B e b = omega arith
+pub cover-within : (t : Tally) (program B : ℕ) → EachSum (t .sums) → program ≤ mostSum → B ≤ mostSum → coverWith t program B ≤ 8 * mostSum
+unfolding coverWith acquired total
+cover-within t program B e p b = omega arith
 
 -- delivery is the day-ahead and the intraday sums
 pub sale-delivery : (t : Tally) → saleSide delivery t ≡ saleSide dayAhead t + getD (t .sums) 1 0 + getD (t .sums) 4 0
 unfolding saleSide total
 sale-delivery t = omega arith
 
-pub cover-delivery : (t : Tally) (B : ℕ) → coverSide delivery t B ≡ coverSide dayAhead t B + getD (t .sums) 7 0 + getD (t .sums) 10 0
-unfolding coverSide total
+-- the day-ahead keeps the program of sum 12, delivery takes the larger of sums 12 and 22
+pub cover-ahead : (t : Tally) (B : ℕ) → coverSide dayAhead t B ≡ coverWith t (getD (t .sums) 11 0) B
+unfolding coverSide programUsed coverWith
+cover-ahead t B = refl
+
+pub cover-delivery : (t : Tally) (B : ℕ) → coverSide delivery t B ≡ coverWith t (max (getD (t .sums) 11 0) (getD (t .sums) 16 0)) B + getD (t .sums) 7 0 + getD (t .sums) 10 0
+unfolding coverSide programUsed coverWith total
 cover-delivery t B = omega arith
 
 -- the balance of the two sides

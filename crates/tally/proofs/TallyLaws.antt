@@ -114,7 +114,7 @@ pub record IsRead (a b w : ℕ) (r : Record) : Type 0 where
   pub party : a ≡ 268435456 + key r .party
   pub day : b ≡ 536870912 + key r .day
   pub figures : w ≡ 805306368 + typeBits (key r .type) (key r .counterparty) (r .label .status)
-  pub type : key r .type ≤ 21
+  pub type : key r .type ≤ 22
   pub counterparty : key r .counterparty ≤ 999
 
 pub is-read : (ws : List ℕ) (at : ℕ) → entryOk (drop at ws) ≡ true → IsRead (getD ws at 0) (getD ws (at + 1) 0) (getD ws (at + 2) 0) (decode (drop at ws))

@@ -1,2 +1,3 @@
 pub mod Bounded
 pub mod Scan
+pub mod Sides

@@ -4,7 +4,8 @@ ghost use Prim.Native.Nat.{_+_, _*_, _≤_, max};
 ghost use lib.IntN.{subℕ};
 ghost use Rattle.tally.specs.Bounded.{Bounded, SumsWithin, mostSum};
 ghost use Rattle.rules.specs.Words.{mostCoefficient, mostTolerance};
-ghost use Rattle.rules.specs.Balance.{balanceOf, saleSide, coverSide, dayAhead, delivery};
+ghost use Rattle.tally.specs.Sides.{coverWith};
+ghost use Rattle.rules.specs.Balance.{balanceOf, saleSide, dayAhead, delivery};
 use rules::Tally;
 
 // A difference of two figures, signed.
@@ -21,6 +22,14 @@ fn acquired(tender: u64, imported: u64, bought: u64) -> u64
     ensures { λ r. ⌜ r ≡ bought + max tender imported ⌝ }
 {
     bought + numbers::larger(tender, imported)
+}
+
+// The generation program of delivery, of sums 12 and 22: one raised by an update is the one used (Article 5, paragraph 3).
+fn raised(program: u64, update: u64) -> u64
+    requires { ⌜ (program ≤ mostSum) × (update ≤ mostSum) ⌝ }
+    ensures { λ r. ⌜ r ≡ max program update ⌝ }
+{
+    numbers::larger(program, update)
 }
 
 // The balance of S and C. The cover tolerance R is on the cover side alone.
@@ -42,22 +51,24 @@ fn ahead_sale(t: Tally) -> u64
     s[0] + s[2] + s[3] + s[5]
 }
 
-// C of the day-ahead: sums 7, 9, 10, 12, 13 and 14, and A.
-fn ahead_cover(t: Tally, bought: u64) -> u64
-    requires { ⌜ SumsWithin (t .sums) ⌝ ∗ ⌜ bought ≤ mostSum ⌝ }
-    ensures { λ r. ⌜ r ≡ coverSide dayAhead t bought ⌝ }
+// C without intraday purchases: sums 7, 9, 10, 13 and 14, the generation program used, and A.
+fn cover_with(t: Tally, program: u64, bought: u64) -> u64
+    requires { ⌜ SumsWithin (t .sums) ⌝ ∗ ⌜ program ≤ mostSum ⌝ ∗ ⌜ bought ≤ mostSum ⌝ }
+    ensures { λ r. ⌜ r ≡ coverWith t program bought ⌝ }
 {
     let s = t.sums;
-    s[6] + s[8] + s[9] + s[11] + s[12] + s[13] + acquired(s[14], s[15], bought)
+    s[6] + s[8] + s[9] + s[12] + s[13] + program + acquired(s[14], s[15], bought)
 }
 
+// The day-ahead balance keeps the program of sum 12 (Article 7).
 pub fn day_ahead_of(t: Tally, bought: u64, coefficient: u32, tolerance: u32) -> i64
     requires { ⌜ Bounded t bought coefficient tolerance ⌝ }
     ensures { λ r. ⌜ r ≡ balanceOf dayAhead coefficient tolerance t bought ⌝ }
 {
+    let s = t.sums;
     balanced(
         ahead_sale(t),
-        ahead_cover(t, bought),
+        cover_with(t, s[11], bought),
         coefficient,
         tolerance,
     )
@@ -70,6 +81,6 @@ pub fn delivery_of(t: Tally, bought: u64, coefficient: u32, tolerance: u32) -> i
 {
     let s = t.sums;
     let sale = ahead_sale(t) + s[1] + s[4];
-    let cover = ahead_cover(t, bought) + s[7] + s[10];
+    let cover = cover_with(t, raised(s[11], s[16]), bought) + s[7] + s[10];
     balanced(sale, cover, coefficient, tolerance)
 }

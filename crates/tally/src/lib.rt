@@ -17,6 +17,7 @@ use rules::layout::HEAD_WORDS;
 use rules::layout::PARTY_WORD;
 use rules::layout::STATUS;
 use rules::layout::TYPES;
+use rules::layout::UPDATED_PROGRAM;
 use rules::layout::WITHDRAWN;
 
 pub mod balances;
@@ -27,11 +28,14 @@ const EXPORT: u32 = FIGURES_WORD + BILATERAL;
 // The first kind 3 word of status 1.
 const WITHDRAWN_WORD: u32 = FIGURES_WORD + WITHDRAWN * STATUS;
 
-// Where the sum of a volume type stands in the tally.
+// Where the sum of a volume type stands in the tally: that of type 22 last.
 pub fn sum_place(entry_type: u32) -> usize
     requires { ⌜ isVolume «entry_type» ≡ true ⌝ }
     ensures { λ r. ⌜ r ≡ sumPlace «entry_type» ⌝ }
 {
+    if entry_type == UPDATED_PROGRAM {
+        return SUMS - 1;
+    }
     (entry_type - 1) as usize
 }
 

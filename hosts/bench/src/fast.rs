@@ -52,13 +52,13 @@ fn fault(party: u32, day: u32, kind: u32, counterparty: u32, amount: u64) -> u32
     if day > 36524 {
         return 4;
     }
-    if kind < 1 || kind > 20 {
+    if kind < 1 || kind > 22 || kind == 21 {
         return 5;
     }
     if if kind == 6 { counterparty > 999 || counterparty == party } else { counterparty != 0 } {
         return 6;
     }
-    if amount > if kind >= 17 { 10_000_000_000_000 } else { 1_000_000_000 } {
+    if amount > if (17..=20).contains(&kind) { 10_000_000_000_000 } else { 1_000_000_000 } {
         return 7;
     }
     0
@@ -219,13 +219,24 @@ pub fn one_entry(book: &[u8], number: u32) -> (u32, u32, u32, u32, u32, u32, u64
     }
 }
 
-fn scan(w: &[u32], party: u32, day: u32) -> ([u64; 16], u64) {
-    let mut sums = [0u64; 16];
+// The place of a volume type's sum: 1 to 16 in turn, then the updated program.
+fn place(kind: u32) -> Option<usize> {
+    match kind {
+        1..=16 => Some(kind as usize - 1),
+        22 => Some(16),
+        _ => None,
+    }
+}
+
+fn scan(w: &[u32], party: u32, day: u32) -> ([u64; 17], u64) {
+    let mut sums = [0u64; 17];
     let mut bought = 0;
     for e in entries(w) {
-        if e.day == day && e.status == 0 && e.kind <= 16 {
+        if e.day == day && e.status == 0 {
             if e.party == party && !(e.kind == 6 && e.counterparty == 0) {
-                sums[e.kind as usize - 1] += e.amount;
+                if let Some(at) = place(e.kind) {
+                    sums[at] += e.amount;
+                }
             }
             if e.kind == 6 && e.counterparty == party {
                 bought += e.amount;
@@ -235,13 +246,14 @@ fn scan(w: &[u32], party: u32, day: u32) -> ([u64; 16], u64) {
     (sums, bought)
 }
 
-fn balance_of(s: &[u64; 16], bought: u64, r: u32, tm: u32, ahead: bool) -> i64 {
+fn balance_of(s: &[u64; 17], bought: u64, r: u32, tm: u32, ahead: bool) -> i64 {
     let at = |k: usize| s[k - 1];
+    let updated = s[16];
     let acquired = bought + at(15).max(at(16));
     let (sale, cover) = if ahead {
         (at(1) + at(3) + at(4) + at(6), at(7) + at(9) + at(10) + at(12) + at(13) + at(14) + acquired)
     } else {
-        ((1..=6).map(at).sum(), (7..=14).map(at).sum::<u64>() + acquired)
+        ((1..=6).map(at).sum(), (7..=11).map(at).sum::<u64>() + at(12).max(updated) + at(13) + at(14) + acquired)
     };
     100 * sale as i64 - (100 * tm as u64).max(cover * r as u64) as i64
 }
@@ -273,15 +285,15 @@ pub fn balance(book: &[u8], party: u32, day: u32, ahead: bool) -> (u32, i64) {
 }
 
 #[inline(never)]
-pub fn tally(book: &[u8], party: u32, day: u32) -> (u32, [u64; 16], u64) {
+pub fn tally(book: &[u8], party: u32, day: u32) -> (u32, [u64; 17], u64) {
     let mut a = [0u32; FULL];
-    let Some(n) = decode(book, &mut a) else { return (1, [0; 16], 0) };
+    let Some(n) = decode(book, &mut a) else { return (1, [0; 17], 0) };
     match asked(&a[..n], party, day) {
         0 => {
             let (s, b) = scan(&a[..n], party, day);
             (0, s, b)
         }
-        c => (c, [0; 16], 0),
+        c => (c, [0; 17], 0),
     }
 }
 
@@ -343,13 +355,15 @@ impl Months {
     }
 }
 
-fn table(w: &[u32], day: u32) -> Vec<[u64; 17]> {
-    let mut t = vec![[0u64; 17]; 1000];
+// The sums of each party, and last what it bought.
+fn table(w: &[u32], day: u32) -> Vec<[u64; 18]> {
+    let mut t = vec![[0u64; 18]; 1000];
     for e in entries(w) {
-        if e.day == day && e.status == 0 && e.kind <= 16 && !(e.kind == 6 && e.counterparty == 0) {
-            t[e.party as usize][e.kind as usize - 1] += e.amount;
+        if e.day == day && e.status == 0 && !(e.kind == 6 && e.counterparty == 0) {
+            let Some(at) = place(e.kind) else { continue };
+            t[e.party as usize][at] += e.amount;
             if e.kind == 6 {
-                t[e.counterparty as usize][16] += e.amount;
+                t[e.counterparty as usize][17] += e.amount;
             }
         }
     }
@@ -359,7 +373,7 @@ fn table(w: &[u32], day: u32) -> Vec<[u64; 17]> {
 fn detected(w: &[u32], day: u32) -> Vec<bool> {
     let t = table(w, day);
     (0..1000)
-        .map(|p| p > 0 && balance_of(t[p][..16].try_into().unwrap(), t[p][16], w[1] % KIND, w[2] % KIND, true) > 0)
+        .map(|p| p > 0 && balance_of(t[p][..17].try_into().unwrap(), t[p][17], w[1] % KIND, w[2] % KIND, true) > 0)
         .collect()
 }
 

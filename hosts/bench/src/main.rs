@@ -16,7 +16,7 @@ struct Entry(u32, u32, u32, u32, u32, u32, u64);
 struct Balance(u32, i64);
 #[repr(C)]
 #[derive(Clone, Copy)]
-struct Sums(u32, [u64; 16]);
+struct Sums(u32, [u64; 17]);
 #[repr(C)]
 #[derive(Clone, Copy)]
 struct Tally(u32, Sums, u64);
@@ -56,6 +56,8 @@ extern "C" {
 
 const RUNS: usize = 400;
 const DAY: u32 = 9000;
+// the volume types
+const VOLUMES: [u32; 17] = [1, 2, 3, 4, 5, 6, 7, 8, 9, 10, 11, 12, 13, 14, 15, 16, 22];
 
 // the shortest of many runs, in nanoseconds; the set-up is outside the time
 fn shortest<S, R>(mut set_up: impl FnMut() -> S, mut run: impl FnMut(&mut S) -> R) -> (f64, (R, S)) {
@@ -95,7 +97,7 @@ fn book(n: usize) -> Vec<u8> {
         let money = d.next(8) == 0;
         // what a control of the day before cancelled
         let earlier = !money && d.next(16) == 0;
-        let kind = if money { 17 + d.next(4) as u32 } else if earlier { 6 } else { 1 + d.next(16) as u32 };
+        let kind = if money { 17 + d.next(4) as u32 } else if earlier { 6 } else { VOLUMES[d.next(17) as usize] };
         let other = if kind == 6 { 1 + (party - 1 + 1 + d.next(998) as u32) % 999 } else { 0 };
         let day = if money { DAY - 1 - d.next(30) as u32 } else { DAY - earlier as u32 };
         let status = 2 * earlier as u32;

@@ -228,7 +228,7 @@ pub mod linked {
     #[repr(C)]
     struct CTally {
         party: u32,
-        sums: [u64; 16],
+        sums: [u64; 17],
     }
 
     #[repr(C)]

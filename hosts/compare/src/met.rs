@@ -29,14 +29,22 @@ pub fn met(call: &Call, answer: &Answer) -> Vec<&'static str> {
             when(a.balance < 0, "below zero");
         }
         (_, Answer::Tally(a)) => {
+            let (program, update) = (a.sums[11], a.sums[16]);
             when(a.bought > 0, "bought bilaterally");
             when(a.sums[5] > 0, "sold bilaterally");
+            when(update > program, "update above program");
+            when(update > 0 && update == program, "update like program");
+            when(update > 0 && update < program, "update below program");
             when(a.sums.iter().all(|s| *s == 0) && a.bought == 0, "nothing");
         }
         (_, Answer::EntryRead(a)) => {
             when(a.entry_type == second::MARK, "mark");
+            when(a.entry_type == second::UPDATED_PROGRAM, "updated program");
             when(a.status == second::WITHDRAWN, "withdrawn");
             when(a.status == second::CANCELLED, "cancelled");
+        }
+        (Call::Post(post), Answer::Posted(_)) => {
+            when(post.entry_type == second::UPDATED_PROGRAM, "updated program");
         }
         (_, Answer::Ceiling(a)) => {
             when(a.recordable == 1, "recordable");
@@ -70,7 +78,9 @@ pub fn met(call: &Call, answer: &Answer) -> Vec<&'static str> {
             when(a.first == 0, "nobody detected");
         }
         (Call::ReadFile { file }, Answer::FileRead(a)) => {
+            let update = |word: &u32| word >> 28 == 3 && word & 0xFF == second::UPDATED_PROGRAM;
             when(a.posted > 0, "lines posted");
+            when(words(file).is_some_and(|w| w.iter().any(update)), "updated program");
             when(a.posted == 0 && !file.is_empty(), "blocks without lines");
             when(file.is_empty(), "empty file");
             when(file.len() >= 65_000, "near 65,536 bytes");

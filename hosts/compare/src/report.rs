@@ -48,6 +48,12 @@ impl Counts {
         self.refused.keys().copied()
     }
 
+    /// How often this was met.
+    #[cfg(test)]
+    pub fn met(&self, label: &str) -> u64 {
+        self.met.get(label).copied().unwrap_or(0)
+    }
+
     pub fn passed(&self) -> u64 {
         self.compared - self.failed
     }

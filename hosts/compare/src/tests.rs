@@ -40,7 +40,7 @@ fn no_difference_where_there_is_none() {
 #[test]
 fn worked_figures() {
     let worked = figures(&Second);
-    assert_eq!((worked.compared, worked.failed), (171, 0));
+    assert_eq!((worked.compared, worked.failed), (295, 0));
     for slip in [
         "open_default: the old coefficient",
         "open_default: the old tolerance",
@@ -55,6 +55,33 @@ fn worked_figures() {
         "post: a volume up to 10^12",
         "read_file: bit 16 of an amount is not spare",
         "read_file: bit 12 of an amount is spare",
+        "is_book: no updated programs",
+        "is_book: an updated program up to 10^13",
+        "is_book: an updated program with a counterparty",
+        "is_book: type 21 with figures",
+        "is_book: type 23",
+        "post: no updated programs",
+        "post: an updated program up to 10^13",
+        "post: an updated program with a counterparty",
+        "post: an updated program on a closed day is refused",
+        "post: type 21",
+        "post: type 23",
+        "withdraw: an updated program of a closed day is refused",
+        "tally: the last sum is lost",
+        "tally: updates are in sum 12",
+        "tally: the latest update only",
+        "day_ahead: the larger of program and update",
+        "delivery: program and update are added",
+        "delivery: the smaller of program and update",
+        "delivery: the update alone",
+        "delivery: the program alone",
+        "delivery: any update instead of the program",
+        "collateral: an updated program is money",
+        "control: an updated program counts",
+        "read_file: no updated programs",
+        "read_file: an updated program up to 10^13",
+        "read_file: type 21",
+        "read_file: type 23",
         "detected: zero too",
         "month: halves down",
         "month: a weight below zero is one less",
@@ -109,6 +136,31 @@ fn every_cause_is_reached() {
     }
 }
 
+/// Updated programs are drawn often, above the program, below it and like it (02, T-02).
+#[test]
+fn updated_programs_are_met() {
+    for (name, label) in [
+        ("post", "updated program"),
+        ("entry", "updated program"),
+        ("read_file", "updated program"),
+        ("tally", "update above program"),
+        ("tally", "update like program"),
+        ("tally", "update below program"),
+    ] {
+        let met = single(&Second, &quiet(20_000), name).met(label);
+        assert!(met > 100, "{name}: {label} {met}");
+    }
+    let counts = lists(&Second, &quiet(20_000));
+    for (name, label) in [
+        ("post", "updated program"),
+        ("read_file", "updated program"),
+        ("tally", "update above program"),
+    ] {
+        let met = counts[name].met(label);
+        assert!(met > 10, "list, {name}: {label} {met}");
+    }
+}
+
 /// The second calculation with one slip.
 struct Wrong(&'static str);
 
@@ -135,8 +187,75 @@ fn rewritten(lent: &mut [u8], change: impl FnOnce(&mut [u32])) {
     lent.copy_from_slice(&bytes(&w));
 }
 
-fn over(sums: &[u64; 16], types: &[usize]) -> i64 {
+fn over(sums: &[u64; 17], types: &[usize]) -> i64 {
     types.iter().map(|t| sums[*t - 1] as i64).sum()
+}
+
+/// A day-ahead or delivery balance whose program is made of sums 12 and 22.
+fn with_program(
+    book: &[u8],
+    (party, day): (u32, u32),
+    ahead: bool,
+    program: fn(i64, i64) -> i64,
+) -> i64 {
+    let t = Second.tally(book, party, day);
+    let figures = decoded(book).expect("a book");
+    let (sales, cover): (&[usize], &[usize]) = if ahead {
+        (&[1, 3, 4, 6], &[7, 9, 10, 13, 14])
+    } else {
+        (&[1, 2, 3, 4, 5, 6], &[7, 8, 9, 10, 11, 13, 14])
+    };
+    let notified = t.sums[14].max(t.sums[15]) as i64;
+    let own = over(&t.sums, cover) + program(t.sums[11] as i64, t.sums[16] as i64);
+    let covered = (own + t.bought as i64 + notified) * i64::from(figures.coefficient);
+    100 * over(&t.sums, sales) - covered.max(100 * i64::from(figures.tolerance))
+}
+
+/// The types of a book's entries changed in its words.
+fn retyped(book: &[u8], change: fn(u32) -> u32) -> Vec<u8> {
+    let mut w = words(book).expect("words");
+    let entries = w.first().map_or(0, |n| n & 0x0FFF_FFFF) as usize;
+    w.iter_mut().skip(5).step_by(5).take(entries).for_each(|word| *word = change(*word));
+    bytes(&w)
+}
+
+/// A type word with its type of one number taken as another.
+fn taken(word: u32, own: u32, other: u32) -> u32 {
+    if word & 0xFF == own {
+        word & 0xFFFF_FF00 | other
+    } else {
+        word
+    }
+}
+
+/// A post taken as one of another type, without a counterparty, that then keeps its own.
+fn posted_as(book: &mut [u8], post: Post, other: u32) -> Posted {
+    let answer = Second.post(book, Post { entry_type: other, counterparty: 0, ..post });
+    if answer.answer == 0 {
+        let own = 0x3000_0000 | (post.counterparty & 0xFFFF) << 8 | post.entry_type;
+        rewritten(book, |w| w[5 + 5 * answer.number as usize] = own);
+    }
+    answer
+}
+
+/// A file whose lines of one type are taken as of another, and then keep their own.
+fn read_as(book: &mut [u8], file: &[u8], own: u32, other: u32) -> FileRead {
+    let first = Second.count(book).count as usize;
+    let Some(mut w) = words(file) else {
+        return Second.read_file(book, file);
+    };
+    let mut of_own = Vec::new();
+    for (i, word) in w.iter_mut().filter(|word| **word >> 28 == 3).enumerate() {
+        if *word & 0xFF == own {
+            of_own.push(5 + 5 * (first + i));
+            *word = taken(*word, own, other);
+        }
+    }
+    let answer = Second.read_file(book, &bytes(&w));
+    if answer.answer == 0 {
+        rewritten(book, |w| of_own.iter().for_each(|at| w[*at] = taken(w[*at], other, own)));
+    }
+    answer
 }
 
 impl Engine for Wrong {
@@ -185,6 +304,21 @@ impl Engine for Wrong {
                 }
                 return Second.is_book(&bytes(&w));
             }
+        }
+        if right == 0 && book.len() % 4 == 0 {
+            let change: fn(u32) -> u32 = match self.0 {
+                "is_book: an updated program up to 10^13" => |word| taken(word, 22, 20),
+                "is_book: an updated program with a counterparty" => {
+                    |word| if word & 0xFF == 22 { word & 0xFF00_00FF } else { word }
+                }
+                "is_book: type 21 with figures" => |word| taken(word, 21, 22),
+                "is_book: type 23" => |word| taken(word, 23, 22),
+                _ => |word| word,
+            };
+            return Second.is_book(&retyped(book, change));
+        }
+        if right == 1 && self.slips("is_book: no updated programs") {
+            return Second.is_book(&retyped(book, |word| taken(word, 22, 23)));
         }
         if right == 1 && self.slips("is_book: money up to 10^12 only") {
             let held = decoded(book).expect("a book").entries;
@@ -246,12 +380,32 @@ impl Engine for Wrong {
             return Posted { answer: 7, number: 0 };
         }
         if self.slips("post: a kuruş above the limit") && right.answer == 7 {
-            let above = post.entry_type >= 17 && post.amount == second::MOST_MONEY + 1;
+            let money = (17..=20).contains(&post.entry_type);
+            let above = money && post.amount == second::MOST_MONEY + 1;
             return Posted { answer: if above { 9 } else { 7 }, number: 0 };
         }
         if self.slips("post: a volume up to 10^12") && right.answer == 7 {
             let within = post.entry_type <= 16 && post.amount <= 1_000_000_000_000;
             return Posted { answer: if within { 9 } else { 7 }, number: 0 };
+        }
+        match (self.0, right.answer, post.entry_type) {
+            ("post: no updated programs", 0 | 6..=9, 22) => {
+                book.copy_from_slice(&before);
+                return Posted { answer: 5, number: 0 };
+            }
+            ("post: an updated program up to 10^13", 7, 22) => return posted_as(book, post, 20),
+            ("post: an updated program with a counterparty", 6, 22) => {
+                return posted_as(book, post, 22)
+            }
+            ("post: type 21", 5, 21) => return posted_as(book, post, 20),
+            ("post: type 23", 5, 23) => return posted_as(book, post, 22),
+            ("post: an updated program on a closed day is refused", 0, 22)
+                if decoded(&before).expect("a book").is_closed(post.day) =>
+            {
+                book.copy_from_slice(&before);
+                return Posted { answer: 8, number: 0 };
+            }
+            _ => (),
         }
         if self.slips("post: a closed day refuses exports too")
             && right.answer == 0
@@ -287,8 +441,17 @@ impl Engine for Wrong {
     }
 
     fn withdraw(&self, book: &mut [u8], number: u32) -> u32 {
+        let before = book.to_vec();
         let right = Second.withdraw(book, number);
-        let entry = decoded(book).and_then(|b| b.entries.get(number as usize).copied());
+        let held = decoded(book);
+        let entry = held.as_ref().and_then(|b| b.entries.get(number as usize).copied());
+        if self.slips("withdraw: an updated program of a closed day is refused") && right == 0 {
+            let day = entry.filter(|e| e.entry_type == 22).map(|e| e.day);
+            if day.is_some_and(|day| held.expect("a book").is_closed(day)) {
+                book.copy_from_slice(&before);
+                return 8;
+            }
+        }
         let again = match entry {
             Some(e) if right == 10 && e.status == second::CANCELLED => {
                 self.slips("withdraw: a cancelled sale")
@@ -343,11 +506,25 @@ impl Engine for Wrong {
             return right;
         }
         let mut wrong = right;
+        if self.slips("tally: the last sum is lost") {
+            wrong.sums[16] = 0;
+        }
+        if self.slips("tally: updates are in sum 12") {
+            wrong.sums[11] += right.sums[16];
+            wrong.sums[16] = 0;
+        }
         for e in decoded(book).expect("a book").entries {
-            if e.party != party || e.day != day || e.entry_type > 16 {
+            let place = match e.entry_type {
+                1..=16 => e.entry_type as usize - 1,
+                22 => 16,
+                _ => continue,
+            };
+            if e.party != party || e.day != day {
                 continue;
             }
-            let place = e.entry_type as usize - 1;
+            if self.slips("tally: the latest update only") && place == 16 && e.stands() {
+                wrong.sums[16] = e.amount;
+            }
             let export = e.entry_type == 6 && e.counterparty == 0;
             if self.slips("tally: exports count") && export && e.stands() {
                 wrong.sums[place] += e.amount;
@@ -366,6 +543,12 @@ impl Engine for Wrong {
         }
         if self.slips("day_ahead: intraday counts") {
             return Second.delivery(book, party, day);
+        }
+        if self.slips("day_ahead: the larger of program and update") {
+            return BalanceAnswer {
+                answer: 0,
+                balance: with_program(book, (party, day), true, i64::max),
+            };
         }
         if self.slips("day_ahead: the words behind the last entry are read") {
             let mut w = words(book).expect("words");
@@ -389,7 +572,8 @@ impl Engine for Wrong {
         let figures = decoded(book).expect("a book");
         let (r, tm) = (i64::from(figures.coefficient), i64::from(figures.tolerance));
         let sales = over(&t.sums, &[1, 2, 3, 4, 5, 6]);
-        let own = over(&t.sums, &[7, 8, 9, 10, 11, 12, 13, 14]);
+        let others = over(&t.sums, &[7, 8, 9, 10, 11, 13, 14]);
+        let own = others + t.sums[11].max(t.sums[16]) as i64;
         let (tender, import) = (t.sums[14] as i64, t.sums[15] as i64);
         let bought = t.bought as i64;
         let cover = own + bought + tender.max(import);
@@ -402,6 +586,24 @@ impl Engine for Wrong {
                 100 * sales - (100 * tm).max((own + bought.max(tender.max(import))) * r)
             }
             "delivery: whole kWh" => right.balance / 100 * 100,
+            "delivery: program and update are added" => {
+                with_program(book, (party, day), false, |program, update| program + update)
+            }
+            "delivery: the smaller of program and update" => {
+                with_program(book, (party, day), false, i64::min)
+            }
+            "delivery: the update alone" => {
+                with_program(book, (party, day), false, |_, update| update)
+            }
+            "delivery: the program alone" => {
+                with_program(book, (party, day), false, |program, _| program)
+            }
+            "delivery: any update instead of the program" => {
+                with_program(book, (party, day), false, |program, update| match update {
+                    0 => program,
+                    _ => update,
+                })
+            }
             _ => right.balance,
         };
         BalanceAnswer { answer: 0, balance }
@@ -541,6 +743,7 @@ impl Engine for Wrong {
             | "collateral: a zero entry chooses a day"
             | "collateral: g counts"
             | "collateral: g − 31 counts"
+            | "collateral: an updated program is money"
             | "collateral: a day's debt may be negative" => {
                 let debts = self.debts(&decoded(book).expect("a book"), case);
                 let k = if case.nonbusiness <= 2 { 3 } else { 1 + case.nonbusiness };
@@ -632,6 +835,17 @@ impl Engine for Wrong {
                 return FileRead { answer: 2, posted: 0 };
             }
         }
+        let (own, other) = match (self.0, right.answer) {
+            ("read_file: no updated programs", 0 | 3..=9) => (22, 23),
+            ("read_file: an updated program up to 10^13", 7) => (22, 20),
+            ("read_file: type 21", 5) => (21, 20),
+            ("read_file: type 23", 5) => (23, 22),
+            _ => (0, 0),
+        };
+        if own > 0 {
+            book.copy_from_slice(&before);
+            return read_as(book, file, own, other);
+        }
         if self.slips("read_file: a length above 65,536")
             && right.answer == 2
             && file.len() > 65_536
@@ -679,7 +893,9 @@ impl Wrong {
             if self.slips("collateral: g − 31 counts") && case.day == e.day + 31 {
                 window = true;
             }
-            let money = (17..=20).contains(&e.entry_type);
+            let update =
+                self.slips("collateral: an updated program is money") && e.entry_type == 22;
+            let money = (17..=20).contains(&e.entry_type) || update;
             if e.party != case.party || !e.stands() || !money || !window {
                 continue;
             }
@@ -729,6 +945,8 @@ impl Wrong {
             second::encode(book, &mut w);
             if slips("control: the delivery balance") {
                 second::delivery(&w, party, day).balance
+            } else if slips("control: an updated program counts") {
+                with_program(&bytes(&w), (party, day), true, i64::max)
             } else {
                 second::day_ahead(&w, party, day).balance
             }
@@ -839,13 +1057,18 @@ impl Wrong {
     }
 }
 
-const SLIPS: [&str; 92] = [
+const SLIPS: [&str; 119] = [
     "is_book: status 3 is allowed",
     "is_book: a cancelled export is allowed",
     "is_book: more than 3,072 entries are allowed",
     "is_book: bits above the party are not read",
     "is_book: bits above an amount are not read",
     "is_book: money up to 10^12 only",
+    "is_book: no updated programs",
+    "is_book: an updated program up to 10^13",
+    "is_book: an updated program with a counterparty",
+    "is_book: type 21 with figures",
+    "is_book: type 23",
     "is_book: bytes behind the words are not read",
     "open: clears the words behind",
     "open: writes on a refusal",
@@ -860,6 +1083,12 @@ const SLIPS: [&str; 92] = [
     "post: money up to 10^12 only",
     "post: a kuruş above the limit",
     "post: a volume up to 10^12",
+    "post: no updated programs",
+    "post: an updated program up to 10^13",
+    "post: an updated program with a counterparty",
+    "post: an updated program on a closed day is refused",
+    "post: type 21",
+    "post: type 23",
     "post: a closed day refuses exports too",
     "post: a party is cut to sixteen bits",
     "post: a number on a refusal",
@@ -868,18 +1097,28 @@ const SLIPS: [&str; 92] = [
     "withdraw: a cancelled sale",
     "withdraw: a mark",
     "withdraw: on a closed day",
+    "withdraw: an updated program of a closed day is refused",
     "count: without marks",
     "entry: marks are not read",
     "entry: reads the words behind the last",
     "tally: the party on a refusal",
     "tally: exports count",
     "tally: withdrawn entries count",
+    "tally: the last sum is lost",
+    "tally: updates are in sum 12",
+    "tally: the latest update only",
     "day_ahead: intraday counts",
+    "day_ahead: the larger of program and update",
     "day_ahead: the words behind the last entry are read",
     "delivery: the tolerance goes to the sale side",
     "delivery: tender and import are added",
     "delivery: the larger of bought and notified",
     "delivery: whole kWh",
+    "delivery: program and update are added",
+    "delivery: the smaller of program and update",
+    "delivery: the update alone",
+    "delivery: the program alone",
+    "delivery: any update instead of the program",
     "detected: zero too",
     "ceiling: below only",
     "ceiling: halves lost",
@@ -905,6 +1144,7 @@ const SLIPS: [&str; 92] = [
     "collateral: a zero entry chooses a day",
     "collateral: g counts",
     "collateral: g − 31 counts",
+    "collateral: an updated program is money",
     "collateral: a day's debt may be negative",
     "collateral: trading rounds down",
     "collateral: a holiday counts with k 3 too",
@@ -913,6 +1153,7 @@ const SLIPS: [&str; 92] = [
     "collateral: YEK without the floor",
     "collateral: margin and trading are added",
     "control: the delivery balance",
+    "control: an updated program counts",
     "control: exports are cancelled too",
     "control: a lost purchase inside the first pass",
     "control: only bilateral sellers are counted",
@@ -931,6 +1172,10 @@ const SLIPS: [&str; 92] = [
     "read_file: an empty block is not checked",
     "read_file: bit 16 of an amount is not spare",
     "read_file: bit 12 of an amount is spare",
+    "read_file: no updated programs",
+    "read_file: an updated program up to 10^13",
+    "read_file: type 21",
+    "read_file: type 23",
     "read_file: the room before the lines",
 ];
 
@@ -972,7 +1217,10 @@ fn a_slip_is_found_in_its_own_call_only() {
 fn slips_are_found_in_lists() {
     for (slip, name) in [
         ("post: reaches the book on the first call only", "post"),
+        ("post: no updated programs", "post"),
         ("withdraw: on a closed day", "withdraw"),
+        ("delivery: the program alone", "delivery"),
+        ("control: an updated program counts", "control"),
         ("control: no second pass", "control"),
         ("control: no mark", "control"),
         ("read_file: the lines before a faulty one stay", "read_file"),

@@ -3,7 +3,9 @@
 //! names no tolerance, R is 110 and TM 600,000, named at opening (02, T-12).
 
 use crate::engine::{bytes, Engine, Post, Tables};
-use second::{Case, Collateral, Controlled, FileRead, FirstDayAnswer, Month};
+use second::{
+    Case, Collateral, Controlled, EntryRead, FileRead, FirstDayAnswer, Month, TallyAnswer,
+};
 use std::fmt::Debug;
 
 /// What was held against the paper, and how much of it differs.
@@ -20,6 +22,12 @@ pub fn figures<E: Engine>(engine: &E) -> Worked<'_, E> {
     worked.opened_without_figures();
     worked.larger_money();
     worked.largest_trading();
+    worked.updated_programs();
+    worked.larger_of_two_programs();
+    worked.seventeen_sums();
+    worked.updates_of_a_closed_day();
+    worked.updates_in_the_second_pass();
+    worked.updates_beside_money();
     worked.margins();
     worked.months();
     worked.weights();
@@ -138,13 +146,138 @@ impl<E: Engine> Worked<'_, E> {
             (0x3000_0001, 0x4000_0000, 0x5000_1000, 7, 0),
             (0x3000_0201, 0x4000_0000, 0x5000_1000, 6, 0),
         ] {
-            let (mut lent, mut held) = (self.book(&[]), book.clone());
-            let file = bytes(&[0x1001_0001, 0x2000_0063, what, low, high]);
-            let stated = FileRead { answer, posted: u32::from(answer == 0) };
-            self.holds("a line's amount", self.engine.read_file(&mut lent, &file), stated);
-            held[20..32].copy_from_slice(&bytes(&[what, low, high]));
-            self.holds("an entry's amount", self.engine.is_book(&held), is_book);
+            self.line_and_entry(&book, [what, low, high], answer, is_book);
         }
+    }
+
+    /// Three words as a file's only line, and in the place of a book's first entry, both of party 1 and day 99.
+    fn line_and_entry(&mut self, book: &[u8], line: [u32; 3], answer: u32, is_book: u32) {
+        let (mut lent, mut held) = (self.book(&[]), book.to_vec());
+        let file = bytes(&[&[0x1001_0001, 0x2000_0063][..], &line].concat());
+        let stated = FileRead { answer, posted: u32::from(answer == 0) };
+        self.holds("a line", self.engine.read_file(&mut lent, &file), stated);
+        held[20..32].copy_from_slice(&bytes(&line));
+        self.holds("an entry", self.engine.is_book(&held), is_book);
+    }
+
+    /// 02, T-02: type 22 is a volume without a counterparty, 21 stays a mark's.
+    fn updated_programs(&mut self) {
+        for (entry_type, counterparty, amount, answer) in [
+            (22, 0, 0, 0),
+            (22, 0, 1_000_000_000, 0),
+            (22, 0, 1_000_000_001, 7),
+            (22, 0, 1_000_000_000_000, 7),
+            (22, 0, 10_000_000_000_000, 7),
+            (22, 1, 0, 6),
+            (22, 2, 1_000_000_001, 6),
+            (21, 0, 0, 5),
+            (23, 0, 0, 5),
+            (255, 0, 0, 5),
+        ] {
+            let mut book = self.book(&[]);
+            let post = Post { party: 1, day: 99, entry_type, counterparty, amount };
+            self.holds("a type", self.engine.post(&mut book, post).answer, answer);
+        }
+        let book = self.book(&[(1, 99, 22, 0, 1_000_000_000)]);
+        let stated = [0x1000_0001, 0x2000_0063, 0x3000_0016, 0x4B9A_CA00, 0x5000_0003];
+        self.holds("the words of an update", &book[12..32], &bytes(&stated));
+        let stated = EntryRead { party: 1, day: 99, entry_type: 22, ..EntryRead::default() };
+        let stated = EntryRead { amount: 1_000_000_000, ..stated };
+        self.holds("an update read", self.engine.entry(&book, 0), stated);
+        for (what, low, high, answer, is_book) in [
+            (0x3000_0016, 0x4B9A_CA00, 0x5000_0003, 0, 1),
+            (0x3000_0016, 0x4B9A_CA01, 0x5000_0003, 7, 0), // 10^9 + 1
+            (0x3000_0016, 0x44A5_1000, 0x5000_0E8D, 7, 0), // 10^12
+            (0x3000_0216, 0x4000_0000, 0x5000_0000, 6, 0),
+            (0x3100_0016, 0x4000_0000, 0x5000_0000, 2, 1), // a withdrawn entry, no line
+            (0x3200_0016, 0x4000_0000, 0x5000_0000, 2, 0),
+            (0x3000_0015, 0x4000_0000, 0x5000_0000, 5, 0), // a mark has no party
+            (0x3000_0017, 0x4000_0000, 0x5000_0000, 5, 0),
+        ] {
+            self.line_and_entry(&book, [what, low, high], answer, is_book);
+        }
+    }
+
+    /// Delivery uses the larger of sums 12 and 22, day-ahead sum 12. R 100, TM 0: −100 × the one used.
+    fn larger_of_two_programs(&mut self) {
+        for (entries, program, update, ahead, due) in [
+            (&[(12, 300), (22, 200)][..], 300, 200, -30_000, -30_000),
+            (&[(12, 200), (22, 300)], 200, 300, -20_000, -30_000),
+            (&[(12, 250), (22, 250)], 250, 250, -25_000, -25_000),
+            (&[(22, 300)], 0, 300, 0, -30_000),
+            (&[(12, 300)], 300, 0, -30_000, -30_000),
+            (&[(12, 200), (22, 120), (22, 130)], 200, 250, -20_000, -25_000),
+        ] {
+            let mut book = vec![0; 12 + 20 * entries.len()];
+            self.holds("opening", self.engine.open(&mut book, 100, 0), 0);
+            let posts: Vec<_> =
+                entries.iter().map(|&(t, amount)| (1, 9_000, t, 0, amount)).collect();
+            self.posts(&mut book, &posts);
+            let sums = self.engine.tally(&book, 1, 9_000).sums;
+            self.holds("program and update", (sums[11], sums[16]), (program, update));
+            self.balances_of("two programs", &book, (1, 9_000), (ahead, due));
+        }
+    }
+
+    /// Day-ahead and delivery balance of a party on a day.
+    fn balances_of(&mut self, what: &str, book: &[u8], asked: (u32, u32), stated: (i64, i64)) {
+        let ahead = self.engine.day_ahead(book, asked.0, asked.1).balance;
+        let due = self.engine.delivery(book, asked.0, asked.1).balance;
+        self.holds(what, (ahead, due), stated);
+    }
+
+    /// 1,000 × k of each volume type k: type 22 is last.
+    fn seventeen_sums(&mut self) {
+        let types = [1_u32, 2, 3, 4, 5, 6, 7, 8, 9, 10, 11, 12, 13, 14, 15, 16, 22];
+        let posts = types.map(|k| (1, 99, k, if k == 6 { 2 } else { 0 }, 1_000 * u64::from(k)));
+        let book = self.book(&posts);
+        let sums = types.map(|k| 1_000 * u64::from(k));
+        let stated = TallyAnswer { answer: 0, party: 1, sums, bought: 0 };
+        self.holds("seventeen sums", self.engine.tally(&book, 1, 99), stated);
+    }
+
+    /// 700,000 sold against a program of 600,000, updated to 700,000: 70,000,000 − 66,000,000 is detected day-ahead,
+    /// 70,000,000 − 77,000,000 is clear in delivery. The closed day takes updates, and their withdrawal.
+    fn updates_of_a_closed_day(&mut self) {
+        let mut book = self.book(&[
+            (1, 99, 6, 2, 700_000),
+            (1, 99, 12, 0, 600_000),
+            (1, 99, 22, 0, 700_000),
+            (2, 99, 22, 0, 800_000),
+            (1, 98, 22, 0, 900_000),
+        ]);
+        self.balances_of("an update", &book, (1, 99), (4_000_000, -7_000_000));
+        let stated = Controlled { answer: 0, first: 1, second: 0, cancelled: 1 };
+        let got = self.engine.control(&mut book, 99);
+        self.holds("control of an updated program", got, stated);
+        self.balances_of("an update, no sale", &book, (1, 99), (-66_000_000, -77_000_000));
+        self.holds("withdrawal of an update", self.engine.withdraw(&mut book, 2), 0);
+        self.balances_of("a withdrawn update", &book, (1, 99), (-66_000_000, -66_000_000));
+        self.posts(&mut book, &[(1, 99, 22, 0, 650_000)]);
+        self.balances_of("another update", &book, (1, 99), (-66_000_000, -71_500_000));
+    }
+
+    /// As in `calendar`, but the buyer has an update of 900,000: it is detected all the same.
+    fn updates_in_the_second_pass(&mut self) {
+        let mut book = self.book(&[
+            (1, 59, 6, 2, 700_000),
+            (1, 58, 6, 2, 700_000),
+            (2, 58, 6, 3, 650_000),
+            (2, 58, 22, 0, 900_000),
+        ]);
+        for (day, second, cancelled) in [(59, 0, 1), (58, 1, 2)] {
+            let stated = Controlled { answer: 0, first: 1, second, cancelled };
+            let got = self.engine.control(&mut book, day);
+            self.holds("control with an update", got, stated);
+        }
+    }
+
+    /// Trading is of types 17 to 20 alone.
+    fn updates_beside_money(&mut self) {
+        let book = self.book(&[(1, 99, 19, 0, 80), (1, 99, 22, 0, 50)]);
+        let case = Case { party: 1, day: 100, ..Case::supplier() };
+        let answer = self.collateral(&book, case);
+        self.holds("trading beside an update", answer.trading, 80);
     }
 
     /// 3,072 purchases of 10^13: × 50 × 4 / 80 is 76,800,000,000,000,000. The total adds the largest
@@ -319,6 +452,13 @@ impl<E: Engine> Worked<'_, E> {
             self.both("the sample's seller", &book, (1, 9_000), first);
             self.both("the sample's buyer", &book, (2, 9_000), second);
         }
+        // The seller's program updated to 600,000 in a line of its own: 70,000,000 − 105 × 600,000 in delivery.
+        let update = bytes(&[0x1001_0001, 0x2000_2328, 0x3000_0016, 0x4009_27C0, 0x5000_0000]);
+        let mut book = vec![0; 12 + 20 * 3];
+        self.holds("opening without figures", self.engine.open_default(&mut book), 0);
+        let read = self.engine.read_file(&mut book, &[file, update].concat());
+        self.holds("the sample and an update", read, FileRead { answer: 0, posted: 3 });
+        self.balances_of("the sample updated", &book, (1, 9_000), (17_500_000, 7_000_000));
     }
 
     /// Day 59 is 2000-02-29: a pair cancelled on it is repeated on day 58, not on day 60. The buyer sells 650,000:

@@ -33,13 +33,13 @@ pub struct BalanceAnswer {
     pub balance: i64,
 }
 
-/// A party's sixteen volume sums of a day (type 1 stands at place 0; sum 6 is
-/// without exports), and what others sold to it bilaterally.
+/// A party's seventeen volume sums of a day (type 1 stands at place 0, type 22 at
+/// place 16; sum 6 is without exports), and what others sold to it bilaterally.
 #[derive(Clone, Copy, Debug, PartialEq, Eq, Default)]
 pub struct TallyAnswer {
     pub answer: u32,
     pub party: u32,
-    pub sums: [u64; 16],
+    pub sums: [u64; 17],
     pub bought: u64,
 }
 

@@ -1,14 +1,16 @@
 //! The tally of a party's day and the two balances.
 
 use crate::answers::{BalanceAnswer, TallyAnswer};
-use crate::book::{decode, Book, BILATERAL_SALE, LAST_DAY, LAST_PARTY, LAST_VOLUME_TYPE};
+use crate::book::{
+    decode, is_volume, Book, BILATERAL_SALE, LAST_DAY, LAST_PARTY, PROGRAM, UPDATED_PROGRAM,
+};
 use std::collections::BTreeMap;
 
-/// Sums by volume type (place 0 is not used), and B: bilateral sales of others
-/// to the party.
+/// Sums by type (places of no volume type are not used), and B: bilateral sales of
+/// others to the party.
 #[derive(Clone, Copy, Debug, PartialEq, Eq, Default)]
 pub(crate) struct Tally {
-    sums: [i128; 17],
+    sums: [i128; 23],
     bought: i128,
 }
 
@@ -22,6 +24,11 @@ impl Tally {
         self.bought + self.sums[15].max(self.sums[16])
     }
 
+    /// Article 5, paragraph 3: a program raised by an update is the one used (02, T-02).
+    fn program_in_delivery(&self) -> i128 {
+        self.sums[PROGRAM as usize].max(self.sums[UPDATED_PROGRAM as usize])
+    }
+
     /// Article 7.
     pub(crate) fn day_ahead(&self, book: &Book) -> i128 {
         let sales = self.over(&[1, 3, 4, 6]);
@@ -32,7 +39,8 @@ impl Tally {
     /// Article 5.
     pub(crate) fn delivery(&self, book: &Book) -> i128 {
         let sales = self.over(&[1, 2, 3, 4, 5, 6]);
-        let cover = self.over(&[7, 8, 9, 10, 11, 12, 13, 14]) + self.a();
+        let others = self.over(&[7, 8, 9, 10, 11, 13, 14]);
+        let cover = others + self.program_in_delivery() + self.a();
         balance(book, sales, cover)
     }
 }
@@ -49,7 +57,7 @@ fn balance(book: &Book, sales: i128, cover: i128) -> i128 {
 pub(crate) fn tallies(book: &Book, day: u32) -> BTreeMap<u32, Tally> {
     let mut all: BTreeMap<u32, Tally> = BTreeMap::new();
     for e in &book.entries {
-        if !e.stands() || e.day != day || e.entry_type > LAST_VOLUME_TYPE {
+        if !e.stands() || e.day != day || !is_volume(e.entry_type) {
             continue;
         }
         if e.entry_type == BILATERAL_SALE && e.counterparty == 0 {
@@ -92,10 +100,11 @@ pub fn tally(words: &[u32], party: u32, day: u32) -> TallyAnswer {
         return refused(cause);
     }
     let tally = tally_of(&book, party, day);
-    let mut sums = [0; 16];
+    let mut sums = [0; 17];
     for entry_type in 1..=16 {
         sums[entry_type - 1] = tally.sums[entry_type] as u64;
     }
+    sums[16] = tally.sums[UPDATED_PROGRAM as usize] as u64;
     TallyAnswer { answer: 0, party, sums, bought: tally.bought as u64 }
 }
 

@@ -5,10 +5,11 @@ use crate::answers::{Counted, EntryRead, Posted};
 pub const MOST_ENTRIES: usize = 3_072;
 pub const LAST_DAY: u32 = 36_524;
 pub const LAST_PARTY: u32 = 999;
-pub const LAST_TYPE: u32 = 20;
-pub const LAST_VOLUME_TYPE: u32 = 16;
 pub const BILATERAL_SALE: u32 = 6;
+pub const PROGRAM: u32 = 12;
 pub const MARK: u32 = 21;
+/// The updated generation program, a volume (02, T-02).
+pub const UPDATED_PROGRAM: u32 = 22;
 pub const MOST_VOLUME: u64 = 1_000_000_000;
 /// Money goes up to 10^13, and the kind 5 word carries its bits from 28 on, 16 of them (02, T-06).
 pub const MOST_MONEY: u64 = 10_000_000_000_000;
@@ -166,6 +167,19 @@ pub fn encode(book: &Book, words: &mut [u32]) {
     }
 }
 
+/// The largest amount of a type; None where no post has the type, a mark's among them.
+pub fn most_of(entry_type: u32) -> Option<u64> {
+    match entry_type {
+        1..=16 | UPDATED_PROGRAM => Some(MOST_VOLUME),
+        17..=20 => Some(MOST_MONEY),
+        _ => None,
+    }
+}
+
+pub(crate) fn is_volume(entry_type: u32) -> bool {
+    most_of(entry_type) == Some(MOST_VOLUME)
+}
+
 /// Checks 3 to 7 of a post: the lowest cause that holds, or 0.
 pub fn fault(party: u32, day: u32, entry_type: u32, counterparty: u32, amount: u64) -> u32 {
     if party < 1 || party > LAST_PARTY {
@@ -174,9 +188,9 @@ pub fn fault(party: u32, day: u32, entry_type: u32, counterparty: u32, amount: u
     if day > LAST_DAY {
         return 4;
     }
-    if entry_type < 1 || entry_type > LAST_TYPE {
+    let Some(most) = most_of(entry_type) else {
         return 5;
-    }
+    };
     if entry_type == BILATERAL_SALE {
         if counterparty > LAST_PARTY || counterparty == party {
             return 6;
@@ -184,7 +198,6 @@ pub fn fault(party: u32, day: u32, entry_type: u32, counterparty: u32, amount: u
     } else if counterparty != 0 {
         return 6;
     }
-    let most = if entry_type <= LAST_VOLUME_TYPE { MOST_VOLUME } else { MOST_MONEY };
     if amount > most {
         return 7;
     }

@@ -24,10 +24,10 @@ pub use answers::{
 };
 pub use balance::{day_ahead, delivery, detected, tally};
 pub use book::{
-    count, decode, encode, entry, fault, is_book, open, open_default, post, room, withdraw, Book,
-    Entry, BILATERAL_SALE, CANCELLED, DEFAULT_COEFFICIENT, DEFAULT_TOLERANCE, LAST_DAY, LAST_PARTY,
-    LAST_TYPE, LAST_VOLUME_TYPE, MARK, MOST_COEFFICIENT, MOST_ENTRIES, MOST_MONEY, MOST_TOLERANCE,
-    MOST_VOLUME, STANDING, WITHDRAWN,
+    count, decode, encode, entry, fault, is_book, most_of, open, open_default, post, room,
+    withdraw, Book, Entry, BILATERAL_SALE, CANCELLED, DEFAULT_COEFFICIENT, DEFAULT_TOLERANCE,
+    LAST_DAY, LAST_PARTY, MARK, MOST_COEFFICIENT, MOST_ENTRIES, MOST_MONEY, MOST_TOLERANCE,
+    MOST_VOLUME, PROGRAM, STANDING, UPDATED_PROGRAM, WITHDRAWN,
 };
 pub use calendar::first_day;
 pub use ceiling::ceiling;

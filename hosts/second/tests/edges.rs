@@ -135,7 +135,11 @@ fn entries_that_no_book_has() {
         (5, 0x3000_0200), // type 0
         (5, 0x3000_0215), // a mark with a party and counterparty
         (5, 0x3000_0015), // a mark with a party
-        (5, 0x3000_0216), // type 22
+        (5, 0x3000_0216), // type 22 with a counterparty
+        (5, 0x3200_0016), // a cancelled update
+        (5, 0x3300_0016), // an update with status 3
+        (5, 0x3000_0017), // type 23
+        (5, 0x3000_00FF), // type 255
         (5, 0x3000_0106), // to itself
         (5, 0x3003_E806), // counterparty 1,000
         (5, 0x3000_0201), // counterparty outside type 6
@@ -166,6 +170,8 @@ fn entries_that_no_book_has() {
         (5, 0x3100_0206),
         (5, 0x3200_0206),
         (5, 0x3100_000B),
+        (5, 0x3000_0016), // type 22
+        (5, 0x3100_0016), // a withdrawn one
         (6, 0x4000_0000), // amount 0
     ] {
         let mut words = good.clone();
@@ -214,6 +220,7 @@ fn causes_of_a_post_lowest_first() {
     post_refused(&mut words, 4, (1, 1 << 28, 1, 0, 0));
     post_refused(&mut words, 5, (1, 36_524, 0, 1, big));
     post_refused(&mut words, 5, (1, 36_524, 21, 0, 0));
+    post_refused(&mut words, 5, (1, 36_524, 23, 1, big));
     post_refused(&mut words, 5, (1, 36_524, 257, 0, 0));
     post_refused(&mut words, 6, (1, 0, 6, 1, big));
     post_refused(&mut words, 6, (1, 0, 6, 1_000, 0));
@@ -285,8 +292,9 @@ fn withdrawals() {
 
 #[test]
 fn each_type_has_its_side() {
-    // Type t has amount 2^t; R 100, TM 0.
+    // Type t has amount 2^t, type 22 2^25; R 100, TM 0.
     let mut words = book_with(30, 100, 0);
+    posted(&mut words, 1, 50, 22, 0, 1 << 25);
     for entry_type in 1..=16 {
         let other = if entry_type == 6 { 2 } else { 0 };
         posted(&mut words, 1, 50, entry_type, other, 1 << entry_type);
@@ -298,8 +306,9 @@ fn each_type_has_its_side() {
     posted(&mut words, 1, 51, 1, 0, 9); // another day
     posted(&mut words, 3, 50, 6, 1, 1 << 20); // bought
     posted(&mut words, 3, 51, 6, 1, 9);
-    // Delivery: S 126, C 32,640 + 65,536 + 1,048,576.
-    assert_eq!(delivery(&words, 1, 50).balance, 100 * (126 - 32_640 - 65_536 - 1_048_576));
+    // Delivery: S 126, C 32,640 without type 12, which is 4,096, + 33,554,432 + 65,536 + 1,048,576.
+    let cover = 32_640 - 4_096 + 33_554_432 + 65_536 + 1_048_576;
+    assert_eq!(delivery(&words, 1, 50).balance, 100 * (126 - cover));
     // Day-ahead: S 90, C 30,336 + 65,536 + 1,048,576.
     assert_eq!(day_ahead(&words, 1, 50).balance, 100 * (90 - 30_336 - 65_536 - 1_048_576));
     let tally = tally(&words, 1, 50);
@@ -308,6 +317,7 @@ fn each_type_has_its_side() {
     for entry_type in 1..=16 {
         assert_eq!(tally.sums[entry_type - 1], 1 << entry_type);
     }
+    assert_eq!(tally.sums[16], 1 << 25);
     assert_eq!(day_ahead(&words, 2, 50).balance, -6_400);
 }
 
@@ -349,6 +359,13 @@ fn largest_balances() {
         posted(&mut words, 2, 0, 6, 1, 1_000_000_000);
     }
     assert_eq!(delivery(&words, 1, 0).balance, -3_072_000_000_000_000);
+    let mut words = book_with(3_072, 1_000, 0);
+    for _ in 0..3_072 {
+        posted(&mut words, 1, 0, 22, 0, 1_000_000_000);
+    }
+    assert_eq!(tally(&words, 1, 0).sums[16], 3_072_000_000_000);
+    assert_eq!(delivery(&words, 1, 0).balance, -3_072_000_000_000_000);
+    assert_eq!(day_ahead(&words, 1, 0).balance, 0);
 }
 
 #[test]
@@ -363,6 +380,174 @@ fn causes_of_a_balance() {
     }
     assert_eq!(delivery(&words[..2], 0, 0).answer, 1);
     assert_eq!(tally(&words[..2], 0, 0), TallyAnswer { answer: 1, ..TallyAnswer::default() });
+}
+
+// Updated generation programs (document 02, T-02); their balances are in figures.rs
+
+#[test]
+fn posts_of_updated_programs() {
+    let mut words = book_with(2, 110, 600_000);
+    post_refused(&mut words, 3, (0, 36_525, 22, 1, u64::MAX));
+    post_refused(&mut words, 4, (1, 36_525, 22, 1, u64::MAX));
+    post_refused(&mut words, 6, (1, 0, 22, 1, 0));
+    post_refused(&mut words, 6, (1, 0, 22, 2, 1_000_000_001));
+    // The limit of volumes, not that of money.
+    for amount in [1_000_000_001, 1_000_000_000_000, 10_000_000_000_000, u64::MAX] {
+        post_refused(&mut words, 7, (1, 0, 22, 0, amount));
+    }
+    // Type 21 stays a mark's; 278 is 22 in its low byte.
+    for entry_type in [0, 21, 23, 24, 255, 256, 278, u32::MAX] {
+        post_refused(&mut words, 5, (1, 0, entry_type, 0, 0));
+    }
+    let answer = post(&mut words, 999, 36_524, 22, 0, 1_000_000_000);
+    assert_eq!(answer, Posted { answer: 0, number: 0 });
+    assert_eq!(words[3..8], [0x1000_03E7, 0x2000_8EAC, 0x3000_0016, 0x4B9A_CA00, 0x5000_0003]);
+    assert_eq!(post(&mut words, 999, 0, 22, 0, 0), Posted { answer: 0, number: 1 });
+    post_refused(&mut words, 9, (1, 0, 22, 0, 0));
+}
+
+#[test]
+fn books_with_updated_programs() {
+    let mut good = book_with(2, 110, 600_000);
+    posted(&mut good, 1, 9_000, 22, 0, 1_000_000_000);
+    assert!(is_book(&good));
+    assert_eq!(count(&good), Counted { answer: 0, count: 1 });
+    let read = EntryRead { party: 1, day: 9_000, entry_type: 22, ..EntryRead::default() };
+    assert_eq!(entry(&good, 0), EntryRead { amount: 1_000_000_000, ..read });
+    assert_eq!(control(&mut good.clone(), 9_000), controlled(0, 0, 0));
+    for (low, high) in [
+        (0x4B9A_CA01, 0x5000_0003), // 10^9 + 1
+        (0x4000_0000, 0x5000_0004), // 2^30
+        (0x44A5_1000, 0x5000_0E8D), // 10^12
+        (0x4E72_A000, 0x5000_9184), // 10^13
+        (0x4000_0000, 0x5001_0000), // a spare bit
+    ] {
+        let mut words = good.clone();
+        words[6..8].copy_from_slice(&[low, high]);
+        assert!(!is_book(&words), "{low:x} {high:x}");
+        post_refused(&mut words, 1, (1, 9_000, 22, 0, 0));
+    }
+    // A mark with the figures of an update is none, and an update with a mark's has no party.
+    for entry_type in [0x3000_0015, 0x3000_0016] {
+        let mut words = good.clone();
+        words[5] = entry_type;
+        assert_eq!(is_book(&words), entry_type == 0x3000_0016);
+        words[3] = 0x1000_0000;
+        words[6..8].copy_from_slice(&[0x4000_0000, 0x5000_0000]);
+        assert_eq!(is_book(&words), entry_type == 0x3000_0015);
+    }
+}
+
+#[test]
+fn which_updated_programs_count() {
+    let mut words = book_with(6, 100, 0);
+    posted(&mut words, 1, 50, 12, 0, 100);
+    posted(&mut words, 1, 50, 22, 0, 150);
+    posted(&mut words, 1, 50, 22, 0, 250);
+    posted(&mut words, 2, 50, 22, 0, 4_000); // another party's
+    posted(&mut words, 1, 51, 22, 0, 5_000); // another day's
+    let ours = |words: &[u32]| {
+        let tally = tally(words, 1, 50);
+        assert_eq!(tally.sums.iter().sum::<u64>(), tally.sums[11] + tally.sums[16]);
+        assert_eq!(day_ahead(words, 1, 50).balance, -100 * tally.sums[11] as i64);
+        (tally.sums[11], tally.sums[16], delivery(words, 1, 50).balance)
+    };
+    assert_eq!(ours(&words), (100, 400, -40_000));
+    assert_eq!(withdraw(&mut words, 2), 0);
+    assert_eq!(words[15], 0x3100_0016);
+    assert_eq!(ours(&words), (100, 150, -15_000));
+    assert_eq!(withdraw(&mut words, 2), 10);
+    assert_eq!(withdraw(&mut words, 1), 0);
+    assert_eq!(ours(&words), (100, 0, -10_000));
+    assert_eq!(withdraw(&mut words, 0), 0);
+    assert_eq!(ours(&words), (0, 0, 0));
+    posted(&mut words, 1, 50, 22, 0, 7);
+    assert_eq!(ours(&words), (0, 7, -700));
+    assert_eq!(delivery(&words, 2, 50).balance, -400_000);
+    assert_eq!(day_ahead(&words, 2, 50).balance, 0);
+    assert_eq!(delivery(&words, 1, 51).balance, -500_000);
+}
+
+#[test]
+fn an_updated_program_is_no_money() {
+    let mut words = book_with(2, 100, 0);
+    posted(&mut words, 1, 99, 22, 0, 1_000_000_000);
+    posted(&mut words, 1, 98, 17, 0, 80);
+    let answer = collateral(&words, &Case { party: 1, day: 100, ..Case::supplier() });
+    assert_eq!((answer.trading, answer.total), (80, 20_000_000));
+}
+
+/// Control goes by the day-ahead balance, in both passes.
+#[test]
+fn control_without_updated_programs() {
+    // 1 sells 100 with a program of 90, updated to 100.
+    let mut words = book_with(9, 100, 0);
+    posted(&mut words, 1, 40, 6, 2, 100);
+    posted(&mut words, 1, 40, 12, 0, 90);
+    posted(&mut words, 1, 40, 22, 0, 100);
+    assert_eq!(day_ahead(&words, 1, 40).balance, 1_000);
+    assert_eq!(delivery(&words, 1, 40).balance, 0);
+    assert_eq!(control(&mut words, 40), controlled(1, 0, 1));
+    assert_eq!(statuses(&words), [2, 0, 0, 0]);
+    // Clear by its program, whatever its update.
+    let mut words = book_with(9, 100, 0);
+    posted(&mut words, 1, 40, 6, 2, 100);
+    posted(&mut words, 1, 40, 12, 0, 100);
+    posted(&mut words, 1, 40, 22, 0, 90);
+    assert_eq!(control(&mut words, 40), controlled(0, 0, 0));
+    // 2 is the buyer of a repeated pair, and its update does not stand for what it lost.
+    let mut words = book_with(9, 100, 0);
+    posted(&mut words, 1, 39, 6, 2, 100);
+    chain(&mut words, 40);
+    posted(&mut words, 2, 40, 22, 0, 1_000);
+    assert_eq!(control(&mut words, 39), controlled(1, 0, 1));
+    assert_eq!(control(&mut words, 40), controlled(1, 1, 2));
+    assert_eq!(statuses(&words), [2, 2, 2, 0, 0, 0, 0]);
+}
+
+/// A closed day is closed to bilateral sales alone.
+#[test]
+fn updated_programs_of_a_closed_day() {
+    let mut words = book_with(5, 100, 0);
+    posted(&mut words, 1, 40, 22, 0, 10);
+    assert_eq!(control(&mut words, 40), controlled(0, 0, 0));
+    assert_eq!(post(&mut words, 1, 40, 22, 0, 30), Posted { answer: 0, number: 2 });
+    assert_eq!(delivery(&words, 1, 40).balance, -4_000);
+    assert_eq!(withdraw(&mut words, 0), 0);
+    assert_eq!(withdraw(&mut words, 2), 0);
+    assert_eq!(delivery(&words, 1, 40).balance, 0);
+    let line = [0x1001_0001, 0x2000_0028, 0x3000_0016, 0x4000_0007, 0x5000_0000];
+    assert_eq!(read(&mut words, &line), (0, 1));
+    assert_eq!(delivery(&words, 1, 40).balance, -700);
+    assert_eq!(words[18..23], [0x1000_0001, 0x2000_0028, 0x3000_0016, 0x4000_0007, 0x5000_0000]);
+}
+
+#[test]
+fn files_with_updated_programs() {
+    let mut words = book_with(1, 110, 600_000);
+    for (what, low, high, cause) in [
+        (0x3000_0216, 0x4B9A_CA01, 0x5000_0003, 6),
+        (0x3000_0016, 0x4B9A_CA01, 0x5000_0003, 7), // 10^9 + 1
+        (0x3000_0016, 0x44A5_1000, 0x5000_0E8D, 7), // 10^12
+        (0x3000_0016, 0x4E72_A000, 0x5000_9184, 7), // 10^13
+        (0x3000_0016, 0x4000_0000, 0x5001_0000, 2),
+        (0x3100_0016, 0x4000_0000, 0x5000_0000, 2),
+        (0x3000_0015, 0x4000_0000, 0x5000_0000, 5),
+        (0x3000_0017, 0x4000_0000, 0x5000_0000, 5),
+        (0x3000_00FF, 0x4000_0000, 0x5000_0000, 5),
+    ] {
+        let file = [0x1001_0001, 0x2000_0000, what, low, high];
+        assert_eq!(read(&mut words, &file), (cause, 0), "{what:x} {low:x} {high:x}");
+    }
+    // Two updates where one fits: 9; with a faulty line behind them, its cause.
+    let update = [0x3000_0016, 0x4B9A_CA00, 0x5000_0003];
+    let (one, two) = ([0x1001_0001, 0x2000_0000], [0x1002_0001, 0x2000_0000]);
+    assert_eq!(read(&mut words, &[&two[..], &update, &update].concat()), (9, 0));
+    let behind = [0x1001_0001, 0x2000_0000, 0x3000_0015, 0x4000_0000, 0x5000_0000];
+    assert_eq!(read(&mut words, &[&two[..], &update, &update, &behind].concat()), (5, 0));
+    assert_eq!(read(&mut words, &[&one[..], &update].concat()), (0, 1));
+    assert_eq!(entry(&words, 0).amount, 1_000_000_000);
+    assert_eq!(tally(&words, 1, 0).sums[16], 1_000_000_000);
 }
 
 // The month step

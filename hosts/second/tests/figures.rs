@@ -1,6 +1,7 @@
 //! Every figure of document 01, 'Figures to hold it to' and the sample of the
 //! day file, against the second calculation. Where a line names no tolerance,
-//! R is 110 and TM 600,000, named at opening (document 02, T-12).
+//! R is 110 and TM 600,000, named at opening (document 02, T-12). Then updated
+//! programs (document 02, T-02).
 
 use second::*;
 
@@ -96,6 +97,52 @@ fn tender_300_000_and_import_200_000() {
     assert_eq!(delivery(&words, 1, 5).balance, -30_000_000);
     let tally = tally(&words, 1, 5);
     assert_eq!(tally.bought + tally.sums[14].max(tally.sums[15]), 300_000);
+}
+
+/// Document 02, T-02: delivery uses the larger of sums 12 and 22, day-ahead sum 12. R 100 and no
+/// tolerance: each balance is −100 × the program that it uses.
+#[test]
+fn updated_programs() {
+    for (entries, ahead, due) in [
+        (&[(12, 300), (22, 200)][..], -30_000, -30_000), // an update below the program
+        (&[(12, 200), (22, 300)], -20_000, -30_000),     // above it
+        (&[(22, 300), (12, 200)], -20_000, -30_000),     // in another order
+        (&[(12, 250), (22, 250)], -25_000, -25_000),     // equal
+        (&[(12, 250), (22, 251)], -25_000, -25_100),
+        (&[(22, 300)], 0, -30_000), // without a program
+        (&[(12, 300)], -30_000, -30_000),
+        (&[(12, 300), (22, 0)], -30_000, -30_000),
+        (&[(12, 200), (22, 120), (22, 130)], -20_000, -25_000), // 250 in all
+        (&[(12, 200), (22, 90), (22, 110)], -20_000, -20_000),  // 200 in all
+        (&[(12, 150), (22, 200), (12, 150)], -30_000, -30_000), // 300 against 200
+    ] {
+        let mut words = vec![0; 3 + 5 * entries.len()];
+        assert_eq!(open(&mut words, 100, 0), 0);
+        for (entry_type, amount) in entries {
+            posted(&mut words, 1, 9_000, *entry_type, 0, *amount);
+        }
+        assert_eq!(day_ahead(&words, 1, 9_000).balance, ahead, "{entries:?}");
+        assert_eq!(delivery(&words, 1, 9_000).balance, due, "{entries:?}");
+    }
+}
+
+/// An update against a tolerance: 105 × 476,190 is below 50,000,000, 105 × 476,191 is 50,000,055.
+#[test]
+fn an_updated_program_and_the_tolerance() {
+    for (update, due) in [(0, -50_000_000), (476_190, -50_000_000), (476_191, -50_000_055)] {
+        let mut words = default_book(1);
+        posted(&mut words, 1, 9_000, 22, 0, update);
+        assert_eq!(day_ahead(&words, 1, 9_000).balance, -50_000_000);
+        assert_eq!(delivery(&words, 1, 9_000).balance, due);
+    }
+    // A sale of 630,000: 105 × 600,000 is just as much. Detected day-ahead, clear in delivery.
+    let mut words = default_book(3);
+    posted(&mut words, 1, 9_000, 1, 0, 630_000);
+    posted(&mut words, 1, 9_000, 12, 0, 500_000);
+    posted(&mut words, 1, 9_000, 22, 0, 600_000);
+    assert_eq!(day_ahead(&words, 1, 9_000).balance, 10_500_000);
+    assert_eq!(delivery(&words, 1, 9_000).balance, 0);
+    assert!(!detected(0));
 }
 
 fn generation(capacity: u64) -> u64 {
@@ -248,4 +295,31 @@ fn sample_of_the_day_file() {
             amount: 500_000,
         }
     );
+}
+
+/// The sample with an updated program of 600,000: 70,000,000 − 105 × 500,000 day-ahead, 70,000,000 −
+/// 105 × 600,000 in delivery.
+#[test]
+fn sample_with_an_updated_program() {
+    let line = [0x3000_0016, 0x4009_27C0, 0x5000_0000];
+    let file = bytes(&[&[0x1003_0001][..], &SAMPLE[1..], &line].concat());
+    let text = "party day ahead delivery\n1 9000 17500000 7000000\n2 9000 -73500000 -73500000\n";
+    assert_eq!(balance_output(&file), text.as_bytes());
+    assert_eq!(named(&file), [(1, 9_000), (2, 9_000)]);
+    let mut words = default_book(3);
+    assert_eq!(read_file(&mut words, &file), FileRead { answer: 0, posted: 3 });
+    assert_eq!(
+        entry(&words, 2),
+        EntryRead {
+            answer: 0,
+            party: 1,
+            day: 9_000,
+            entry_type: 22,
+            counterparty: 0,
+            status: 0,
+            amount: 600_000,
+        }
+    );
+    let tally = tally(&words, 1, 9_000);
+    assert_eq!((tally.sums[5], tally.sums[11], tally.sums[16]), (700_000, 500_000, 600_000));
 }

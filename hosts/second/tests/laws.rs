@@ -55,7 +55,12 @@ impl Ledger {
 }
 
 fn drawn_record(draw: &mut Draw) -> Entry {
-    let entry_type = draw.below(23) as u32;
+    // A program and its updates meet more often.
+    let entry_type = match draw.below(8) {
+        0 => 12,
+        1 => 22,
+        _ => draw.below(24) as u32,
+    };
     let counterparty = if entry_type == 6 || draw.below(8) == 0 { draw.below(5) as u32 } else { 0 };
     Entry {
         party: draw.below(5) as u32,
@@ -67,8 +72,17 @@ fn drawn_record(draw: &mut Draw) -> Entry {
     }
 }
 
+/// The limit of a volume or of money (02, T-02 and T-06).
+fn most(entry_type: u32) -> u64 {
+    if entry_type <= 16 || entry_type == 22 {
+        1_000_000_000
+    } else {
+        10_000_000_000_000
+    }
+}
+
 fn drawn_amount(draw: &mut Draw, entry_type: u32) -> u64 {
-    let most = if entry_type <= 16 { 1_000_000_000 } else { 10_000_000_000_000 };
+    let most = most(entry_type);
     match draw.below(6) {
         0 => 0,
         1 => most + draw.below(2),
@@ -82,7 +96,7 @@ fn is_sale(e: &Entry, party: u32) -> bool {
 }
 
 fn is_cover(e: &Entry, party: u32) -> bool {
-    let own = e.party == party && (7..=16).contains(&e.entry_type);
+    let own = matches!(e.entry_type, 7..=16 | 22) && e.party == party;
     own || (e.entry_type == 6 && e.counterparty == party)
 }
 
@@ -90,6 +104,7 @@ fn is_cover(e: &Entry, party: u32) -> bool {
 fn lists_are_answered_as_the_ledger_answers_and_balances_keep_their_order() {
     let mut draw = Draw(1);
     let mut ordered = 0;
+    let mut updated = 0;
     let mut ordered_money = 0;
     let mut equal = 0;
     for _ in 0..3_000 {
@@ -112,7 +127,7 @@ fn lists_are_answered_as_the_ledger_answers_and_balances_keep_their_order() {
             }
             let one = drawn_record(&mut draw);
             let mut two = one;
-            let most = if one.entry_type <= 16 { 1_000_000_000 } else { 10_000_000_000_000 };
+            let most = most(one.entry_type);
             if one.amount <= most && draw.below(3) == 0 {
                 // Another legal amount; smaller sales and larger cover are drawn more often.
                 two.amount = match draw.below(4) {
@@ -156,6 +171,13 @@ fn lists_are_answered_as_the_ledger_answers_and_balances_keep_their_order() {
                     assert!(ahead.1.balance <= ahead.0.balance);
                     let delivered = (delivery(&first, party, day), delivery(&second, party, day));
                     assert!(delivered.1.balance <= delivered.0.balance);
+                    // A larger update alone that betters delivery, and day-ahead not.
+                    let changed: Vec<_> = of_day.iter().filter(|(a, b)| a != b).collect();
+                    let updates = changed.iter().all(|(a, _)| a.entry_type == 22);
+                    if updates && delivered.1.balance < delivered.0.balance {
+                        updated += 1;
+                        assert_eq!(ahead.0, ahead.1);
+                    }
                 }
             }
             let named = |e: &Entry| e.party == party || e.counterparty == party;
@@ -202,7 +224,7 @@ fn lists_are_answered_as_the_ledger_answers_and_balances_keep_their_order() {
         }
     }
     assert!(ordered > 5_000 && ordered_money > 2_000, "{ordered} {ordered_money}");
-    assert!(equal > 2_000, "{equal}");
+    assert!(equal > 2_000 && updated > 100, "{equal} {updated}");
 }
 
 #[test]

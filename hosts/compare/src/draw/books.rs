@@ -3,7 +3,10 @@
 use super::world::{days_about_a_month, World};
 use crate::engine::{bytes, words};
 use crate::rng::Rng;
-use second::{Book, Entry, BILATERAL_SALE, CANCELLED, LAST_PARTY, MOST_VOLUME, STANDING};
+use second::{
+    Book, Entry, BILATERAL_SALE, CANCELLED, LAST_PARTY, MOST_VOLUME, PROGRAM, STANDING,
+    UPDATED_PROGRAM,
+};
 
 /// The number of entries of a book: small ones far more often than full ones,
 /// and some that are a few entries too many.
@@ -38,9 +41,32 @@ pub fn book(rng: &mut Rng, world: &World) -> Book {
     }
     let mut book = Book { coefficient: world.coefficient, tolerance: world.tolerance, entries };
     if size < 200 && rng.percent(30) {
+        level_programs(rng, world, &mut book);
+    }
+    if size < 200 && rng.percent(30) {
         tune(rng, world, &mut book);
     }
     book
+}
+
+/// Adds to a program or to its update, so that both sums are equal or within a kWh of it.
+fn level_programs(rng: &mut Rng, world: &World, book: &mut Book) {
+    let is_program = |e: &&Entry| [PROGRAM, UPDATED_PROGRAM].contains(&e.entry_type);
+    let mut of: Vec<_> = book.entries.iter().filter(is_program).map(|e| (e.party, e.day)).collect();
+    of.push((world.party(rng), world.day(rng)));
+    let (party, day) = of[rng.index(of.len())];
+    let mut words = vec![0; 3 + 5 * book.entries.len()];
+    second::encode(book, &mut words);
+    let sums = second::tally(&words, party, day).sums;
+    let (program, update) = (sums[11], sums[16]);
+    let amount = program.abs_diff(update) + rng.below(3);
+    if amount > MOST_VOLUME {
+        return;
+    }
+    let entry_type = if program < update { PROGRAM } else { UPDATED_PROGRAM };
+    let amount = amount.saturating_sub(1);
+    let (counterparty, status) = (0, STANDING);
+    book.entries.push(Entry { party, day, entry_type, counterparty, status, amount });
 }
 
 /// Adds a sale that brings a balance to zero or within a kWh of it.
@@ -102,7 +128,7 @@ pub fn chain(rng: &mut Rng, world: &World) -> (Book, u32) {
     for _ in 0..if plain { 0 } else { rng.below(6) } {
         // Noise: other links, other statuses, market sales and purchases.
         let party = first + rng.below(4) as u32;
-        let entry_type = rng.pick(&[1, 2, 3, 7, 8, 12, 15, 16, 6, 6, 6, 6]);
+        let entry_type = rng.pick(&[1, 2, 3, 7, 8, 12, 22, 22, 15, 16, 6, 6, 6, 6, 6, 6]);
         let other_party = first + (party - first + 1 + rng.below(3) as u32) % 4;
         let sale = entry_type == BILATERAL_SALE;
         let third = rng.pick(&days);
@@ -233,6 +259,10 @@ pub fn damage(rng: &mut Rng, book: &mut Vec<u8>) {
                 (2, 0x3000_0014),
                 (2, 0x3000_0015),
                 (2, 0x3000_0016),
+                (2, 0x3000_0017),
+                (2, 0x3100_0016),
+                (2, 0x3200_0016),
+                (2, 0x3003_E716),
                 (2, 0x3003_E706),
                 (2, 0x3003_E806),
                 (2, 0x3200_0106),

@@ -5,7 +5,9 @@ use super::world::{some_mark, Taste, World};
 use crate::engine::bytes;
 use crate::rng::Rng;
 use crate::sizes::MOST_FILE;
-use second::{Book, BILATERAL_SALE, LAST_DAY, LAST_PARTY, MARK, MOST_MONEY, MOST_VOLUME};
+use second::{
+    most_of, Book, BILATERAL_SALE, LAST_DAY, LAST_PARTY, MARK, MOST_MONEY, UPDATED_PROGRAM,
+};
 
 struct Line {
     entry_type: u32,
@@ -149,10 +151,13 @@ fn faulty(rng: &mut Rng, block: &mut Block) {
             let other = odd(rng, LAST_DAY);
             block.day = rng.pick(&[36_525, 0x0FFF_FFFF, other]);
         }
-        (2, Some(line)) => line.entry_type = rng.pick(&[0, MARK, 22, 255]),
+        (2, Some(line)) => line.entry_type = rng.pick(&[0, MARK, 23, 255]),
         (3, Some(line)) => line.counterparty = rng.pick(&[block.party, 1_000, 65_535, 1]),
         (4, Some(line)) => {
-            let most = if line.entry_type <= 16 { MOST_VOLUME } else { MOST_MONEY };
+            if rng.percent(20) {
+                (line.entry_type, line.counterparty) = (UPDATED_PROGRAM, 0);
+            }
+            let most = most_of(line.entry_type).unwrap_or(MOST_MONEY);
             // 10^12 and the bits from 40 to 43 belong to money alone (02, T-06).
             let bit = 1 << rng.between(40, 43);
             line.amount =

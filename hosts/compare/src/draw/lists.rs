@@ -11,7 +11,8 @@ use second::BILATERAL_SALE;
 /// The start of a list: mostly a fresh book with some places, also a used or a
 /// damaged one.
 pub fn list_start(rng: &mut Rng) -> (World, Vec<u8>) {
-    let taste = rng.pick(&[Taste::Chain, Taste::Bilateral, Taste::Mixed, Taste::Money]);
+    let tastes = [Taste::Chain, Taste::Bilateral, Taste::Mixed, Taste::Money, Taste::Volumes];
+    let taste = rng.pick(&tastes);
     let world = World::draw(rng, taste);
     let start = match rng.below(10) {
         0..=6 => {

@@ -5,8 +5,8 @@ use crate::engine::Post;
 use crate::rng::Rng;
 use second::calendar::{begin_of, days_of_month};
 use second::{
-    Book, Entry, BILATERAL_SALE, CANCELLED, LAST_DAY, LAST_PARTY, MOST_COEFFICIENT, MOST_MONEY,
-    MOST_TOLERANCE, MOST_VOLUME, STANDING, WITHDRAWN,
+    most_of, Book, Entry, BILATERAL_SALE, CANCELLED, LAST_DAY, LAST_PARTY, MOST_COEFFICIENT,
+    MOST_MONEY, MOST_TOLERANCE, PROGRAM, STANDING, UPDATED_PROGRAM, WITHDRAWN,
 };
 
 /// What a round's entries are mostly about.
@@ -127,11 +127,13 @@ impl World {
         match self.taste {
             Taste::Bilateral if rng.percent(65) => BILATERAL_SALE,
             Taste::Chain if rng.percent(80) => BILATERAL_SALE,
-            Taste::Chain => rng.pick(&[1, 2, 7, 12, 15, 16]),
+            Taste::Chain => rng.pick(&[1, 2, 7, PROGRAM, UPDATED_PROGRAM, 15, 16]),
             Taste::Money if rng.percent(85) => rng.between(17, 20) as u32,
             Taste::Level if rng.percent(95) => rng.between(17, 20) as u32,
-            Taste::Volumes => rng.between(1, 16) as u32,
+            Taste::Volumes if rng.percent(85) => rng.between(1, 16) as u32,
+            Taste::Volumes => rng.pick(&[PROGRAM, UPDATED_PROGRAM]),
             _ if rng.percent(30) => BILATERAL_SALE,
+            _ if rng.percent(15) => rng.pick(&[PROGRAM, UPDATED_PROGRAM]),
             _ => rng.between(1, 20) as u32,
         }
     }
@@ -152,7 +154,7 @@ impl World {
     }
 
     pub fn amount(&self, rng: &mut Rng, entry_type: u32) -> u64 {
-        let most = if entry_type <= 16 { MOST_VOLUME } else { MOST_MONEY };
+        let most = most_of(entry_type).unwrap_or(MOST_MONEY);
         if self.taste == Taste::Chain && rng.percent(90) {
             return rng.pick(&[self.volume, self.volume, self.volume - 1, self.volume + 1]);
         }
@@ -220,16 +222,16 @@ impl World {
                     0 => party = odd(rng, LAST_PARTY),
                     1 => day = odd(rng, LAST_DAY),
                     2 => {
-                        let other = odd(rng, 20);
-                        entry_type = rng.pick(&[0, 21, 22, 255, 256, 262, other]);
+                        // 262 is 6 in its low byte, 278 is 22.
+                        let (other, last) = (odd(rng, 20), odd(rng, UPDATED_PROGRAM));
+                        entry_type = rng.pick(&[0, 21, 23, 255, 256, 262, 278, other, last]);
                     }
                     3 => {
                         let other = odd(rng, LAST_PARTY);
                         counterparty = rng.pick(&[party, 1, other]);
                     }
                     _ => {
-                        let most = if entry_type <= 16 { MOST_VOLUME } else { MOST_MONEY };
-                        amount = odd_wide(rng, most);
+                        amount = odd_wide(rng, most_of(entry_type).unwrap_or(MOST_MONEY));
                     }
                 }
             }

@@ -44,7 +44,10 @@ mul-add-to : tie.Need-mul-add-to
 mul-add-to c = search needs
 
 add-add-to : tie.Need-add-add-to
-add-add-to c = search needs
+add-add-to c =
+    let p = c .before .before in
+    let f = facts (p .before) in
+    omega (arith, p .sum-place .ensures)
 
 add-to-requires : tie.Need-add-to-requires
 add-to-requires c κs =

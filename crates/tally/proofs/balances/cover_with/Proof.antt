@@ -1,11 +1,12 @@
--- `tally::balances::ahead_cover` meets its contract. Assumes nothing.
+-- `tally::balances::cover_with` meets its contract. Assumes nothing.
 use native.Mathlib.Omega.{arith}
 use borrow.Author.Needs.{needs}
 use Rattle.numbers.specs.Sums.{total}
-use Rattle.rules.specs.Balance.{coverSide, acquired}
+use Rattle.rules.specs.Balance.{acquired}
+use Rattle.tally.specs.Sides.{coverWith}
 use Rattle.tally.proofs.BalanceLaws.{each-sum}
-use Rattle.tally.proofs.balances.ahead_cover.Statement.{statement}
-use Rattle.tally.proofs.balances.ahead_cover.Tie as tie
+use Rattle.tally.proofs.balances.cover_with.Statement.{statement}
+use Rattle.tally.proofs.balances.cover_with.Tie as tie
 
 array-read-result : tie.Need-array-read-result
 array-read-result c = search needs
@@ -34,9 +35,6 @@ array-read-result-5 c = search needs
 add-result-4 : tie.Need-add-result-4
 add-result-4 c = let e = each-sum (c .before .args .t) (c .before .pre .0) in omega arith
 
-array-read-result-6 : tie.Need-array-read-result-6
-array-read-result-6 c = search needs
-
 add-result-5 : tie.Need-add-result-5
 add-result-5 c = let e = each-sum (c .before .args .t) (c .before .pre .0) in omega arith
 
@@ -53,11 +51,11 @@ add-result-6 : tie.Need-add-result-6
 add-result-6 c = let e = each-sum (c .before .before .args .t) (c .before .before .pre .0) in omega arith
 
 returns : tie.Need-returns
-unfolding coverSide acquired total
+unfolding coverWith acquired total
 returns c = omega arith
 
-pub ahead-cover-spec : {M : Type 1} → statement M
-ahead-cover-spec =
+pub cover-with-spec : {M : Type 1} → statement M
+cover-with-spec =
     tie.close
     (tie.spec
     array-read-result
@@ -69,7 +67,6 @@ ahead-cover-spec =
     add-result-3
     array-read-result-5
     add-result-4
-    array-read-result-6
     add-result-5
     array-read-acquired
     array-read-acquired-2
