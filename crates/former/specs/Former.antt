@@ -1,6 +1,6 @@
--- Copies from before a change of document 02: their tests of a book and of a file, kept so that it can be stated what an older copy takes, answers and refuses.
+-- Copies from before a change of document 02: their tests of a book and of a file and their balances, kept so that it can be stated what an older copy takes, answers and refuses.
 -- No contract cites them. Each is the definition that a contract cites, with the copy's figures in its tests: with today's figures it is that definition
--- (`present-book` and the other laws of `present`, proofs/CopyLaws and PromiseLaws). A change that moves a test adds a figure to `Copy`, and the copy before it.
+-- (`present-book` and the other laws of `present`, proofs/CopyLaws and PromiseLaws). A change that moves a test or a formula adds a figure to `Copy`, and the copy before it.
 use mathlib.Core.Bool.{Bool, true, false, not, cond, _&&_, _||_}
 use mathlib.Core.List.{List, [], _∷_, _++_, map}
 use Prim.Native.Nat.{ℕ, zero, suc, _+_, _*_, _%_, max}
@@ -28,7 +28,7 @@ use Rattle.rules.specs.declared.TallyAnswer.{TallyAnswer}
 use Rattle.rules.specs.declared.BalanceAnswer.{BalanceAnswer}
 use Rattle.rules.specs.declared.Collateral.{Collateral}
 
--- the figures in which the tests of copies differ
+-- the figures in which copies differ
 pub record Copy : Type 0 where
   -- the limit of money, types 17-20
   pub money : ℕ

@@ -1,7 +1,7 @@
 -- What the hypotheses of demand 3 let differ (01, 'Demand 3 and its ledger'): a hypothesis that asks for more would fail here.
 -- Two amounts of a post in range for its type; a smaller sale, a larger item of cover; whatever does not stand, or is of another day or party.
 -- And what it may not leave out: with type 22 not among the cover the claim would be false.
-use mathlib.Core.Path.{_≡_, refl, sym, _∙_}
+use mathlib.Core.Path.{_≡_, refl}
 use mathlib.Core.Logic.{_⊎_, inl, inr}
 use mathlib.Core.List.{List, [], _∷_}
 use Prim.Native.Nat.{ℕ, suc, _≤_}

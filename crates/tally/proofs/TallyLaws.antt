@@ -1,7 +1,7 @@
 -- The tally and B of a book's entries, one entry more at a time, by comparing whole words. Assumes nothing.
 use mathlib.Core.Path.{_≡_, refl, sym, _∙_, ap}
 use mathlib.Core.Logic.{inl, inr}
-use mathlib.Core.Bool.{Bool, true, false, not, cond, _&&_, true≢false}
+use mathlib.Core.Bool.{Bool, true, false, not, cond, _&&_, true≢false, and-false}
 use mathlib.Core.List.{List, [], _∷_, map}
 use Prim.Native.Nat.{ℕ, _+_, _*_, _%_, _≤_, _<_, zero-le}
 use native.Mathlib.Nat.{add-zero}
@@ -133,15 +133,12 @@ is-read ws at e =
       counterparty = b .counterparty;
     }
 
--- the code's tests of an own entry that counts, and of a sale to the party
-abbrev pub ownTests : ℕ → ℕ → ℕ → ℕ → ℕ → List Bool
-ownTests p d a b w =
-    eqb b (536870912 + d)
-    ∷ eqb a (268435456 + p)
-    ∷ ltb w 822083584
-    ∷ isVolume (w % 256)
-    ∷ not (eqb w 805306374)
-    ∷ []
+-- the code's tests of an own entry of the day, of one that counts, and of a sale to the party
+abbrev pub ownTests : ℕ → ℕ → ℕ → ℕ → List Bool
+ownTests p d a b = eqb b (536870912 + d) ∷ eqb a (268435456 + p) ∷ []
+
+abbrev pub sumTests : ℕ → List Bool
+sumTests w = ltb w 822083584 ∷ isVolume (w % 256) ∷ not (eqb w 805306374) ∷ []
 
 abbrev pub soldTests : ℕ → ℕ → ℕ → ℕ → List Bool
 soldTests p d b w = eqb b (536870912 + d) ∷ eqb w (805306374 + 256 * p) ∷ []
@@ -161,30 +158,34 @@ module _ (p d : ℕ) {a b w : ℕ} {r : Record} (f : IsRead a b w r) where
   type-is : w % 256 ≡ key r .type
   type-is = omega arith
 
-  own-same : every (ownTests p d a b w) ≡ isOwn p d (r .label)
+  own-same : every (ownTests p d a b) && every (sumTests w) ≡ isOwn p d (r .label)
   own-same = same-test there back
     where
-      there : every (ownTests p d a b w) ≡ true → isOwn p d (r .label) ≡ true
+      there : every (ownTests p d a b) && every (sumTests w) ≡ true → isOwn p d (r .label) ≡ true
       there e =
-          let h = every-holds (ownTests p d a b w) e in
-          let y : b ≡ 536870912 + d = eqb-true _ _ (h .0) in
-          let x : a ≡ 268435456 + p = eqb-true _ _ (h .1 .0) in
-          let s : w < 822083584 = ltb-true _ _ (h .1 .1 .0) in
-          let k = eqb-false w 805306374 (not-true _ (h .1 .1 .1 .1 .0)) in
+          let q = and-split (every (ownTests p d a b)) (every (sumTests w)) e in
+          let g = every-holds (ownTests p d a b) (q .0) in
+          let h = every-holds (sumTests w) (q .1) in
+          let y : b ≡ 536870912 + d = eqb-true _ _ (g .0) in
+          let x : a ≡ 268435456 + p = eqb-true _ _ (g .1 .0) in
+          let s : w < 822083584 = ltb-true _ _ (h .0) in
+          let k = eqb-false w 805306374 (not-true _ (h .1 .1 .0)) in
           and-join _ _ (eq-eqb (key r .party) p (omega arith))
           (facts-count d (r .label) (record {
             stands = omega arith;
             day = omega arith;
-            volume = rw type-is at (h .1 .1 .1 .0);
+            volume = rw type-is at (h .1 .0);
             no-export = not-export (key r) (λ t c. k (omega arith));
           }))
 
-      back : isOwn p d (r .label) ≡ true → every (ownTests p d a b w) ≡ true
+      back : isOwn p d (r .label) ≡ true → every (ownTests p d a b) && every (sumTests w) ≡ true
       back e =
           let s = and-split (eqb (key r .party) p) (counts d (r .label)) e in
           let x : key r .party ≡ p = eqb-true _ _ (s .0) in
           let c = counts-facts d (r .label) (s .1) in
-          holds-every (ownTests p d a b w) (eq-eqb b (536870912 + d) (omega arith), (eq-eqb a (268435456 + p) (omega arith), (lt-ltb w 822083584 (omega arith), (rw type-is (c .volume), (rw (ne-eqb w 805306374 λ q. export-not (key r) (c .no-export) (omega arith) (omega arith)), tt)))))
+          and-join (every (ownTests p d a b)) (every (sumTests w))
+          (holds-every (ownTests p d a b) (eq-eqb b (536870912 + d) (omega arith), (eq-eqb a (268435456 + p) (omega arith), tt)))
+          (holds-every (sumTests w) (lt-ltb w 822083584 (omega arith), (rw type-is (c .volume), (rw (ne-eqb w 805306374 λ q. export-not (key r) (c .no-export) (omega arith) (omega arith)), tt))))
 
   -- a sale to the party
   pub to-same : p ≤ 999 → every (soldTests p d b w) ≡ every (toTests p d (r .label))
@@ -255,9 +256,10 @@ module _ (ws : List ℕ) (ok : isBook ws ≡ true) where
         go true e = rw (e, type-is p d read)
         go false e = rw e
 
-    pub own-adds : every (ownTests p d (getD ws at 0) (getD ws (at + 1) 0) (getD ws (at + 2) 0)) ≡ true → Adds (tallyTo ws p d i) type (readAt ws i .amount) (tallyTo ws p d (i + 1))
-    own-adds e =
-        let own : isOwn p d (readAt ws i .label) ≡ true = sym (own-same p d read) ∙ e in
+    pub own-adds : every (ownTests p d (getD ws at 0) (getD ws (at + 1) 0)) ≡ true → every (sumTests (getD ws (at + 2) 0)) ≡ true →
+        Adds (tallyTo ws p d i) type (readAt ws i .amount) (tallyTo ws p d (i + 1))
+    own-adds e g =
+        let own : isOwn p d (readAt ws i .label) ≡ true = sym (own-same p d read) ∙ and-join (every (ownTests p d (getD ws at 0) (getD ws (at + 1) 0))) (every (sumTests (getD ws (at + 2) 0))) e g in
         let f = counts-facts d (readAt ws i .label) (and-split (eqb (key (readAt ws i) .party) p) _ own .1) in
         let v : isVolume type ≡ true = rw (type-is p d read) (f .volume) in
         let few = counted-amount d (readAt ws i) (legal-at ws ok i l) f in
@@ -268,8 +270,13 @@ module _ (ws : List ℕ) (ok : isBook ws ≡ true) where
           same = tally-next true own;
         }
 
-    pub own-none : every (ownTests p d (getD ws at 0) (getD ws (at + 1) 0) (getD ws (at + 2) 0)) ≡ false → tallyTo ws p d (i + 1) ≡ tallyTo ws p d i
-    own-none e = tally-next false (sym (own-same p d read) ∙ e)
+    pub not-own : every (ownTests p d (getD ws at 0) (getD ws (at + 1) 0)) ≡ false → tallyTo ws p d (i + 1) ≡ tallyTo ws p d i
+    not-own e = tally-next false (sym (own-same p d read) ∙ ap (λ b. b && every (sumTests (getD ws (at + 2) 0))) e)
+
+    pub not-summed : every (sumTests (getD ws (at + 2) 0)) ≡ false → tallyTo ws p d (i + 1) ≡ tallyTo ws p d i
+    not-summed e =
+        let own : Bool = every (ownTests p d (getD ws at 0) (getD ws (at + 1) 0)) in
+        tally-next false (sym (own-same p d read) ∙ ap (λ b. own && b) e ∙ and-false own)
 
     bought-next : p ≤ 999 → boughtBy p d (readTo ws (i + 1)) ≡ boughtBy p d (readTo ws i) + cond (every (soldTests p d (getD ws (at + 1) 0) (getD ws (at + 2) 0))) (readAt ws i .amount) 0
     unfolding boughtBy countedTo

@@ -55,14 +55,14 @@ fn tallied(mut t: Tally, book: &[u32], day: u32) -> TallyAnswer
         let at = HEAD_WORDS + ENTRY_WORDS * i;
         let today = book[at + 1] == dated;
         let figures = book[at + 2];
-        if today
-            & (book[at] == own)
-            & (figures < WITHDRAWN_WORD)
-            & entry_checks::is_volume(figures % TYPES)
-            & !(figures == EXPORT)
-        {
-            let place = sum_place(figures % TYPES);
-            t.sums[place] = t.sums[place] + words::amount_at(book, at);
+        if today & (book[at] == own) {
+            if (figures < WITHDRAWN_WORD)
+                & entry_checks::is_volume(figures % TYPES)
+                & !(figures == EXPORT)
+            {
+                let place = sum_place(figures % TYPES);
+                t.sums[place] = t.sums[place] + words::amount_at(book, at);
+            }
         }
         if today & (figures == sold) {
             bought += words::amount_at(book, at);

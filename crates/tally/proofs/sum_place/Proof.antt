@@ -1,7 +1,7 @@
 -- `tally::sum_place` meets its contract. Assumes nothing.
 use mathlib.Core.Logic.{inl, inr}
 use native.Mathlib.Omega.{arith}
-use borrow.Author.Tests.{eq-eqb, ne-eqb}
+use borrow.Author.Tests.{ne-eqb}
 use Rattle.rules.proofs.WordLaws.{volume-range}
 use borrow.Author.Needs.{needs}
 use Rattle.tally.proofs.sum_place.Statement.{statement}

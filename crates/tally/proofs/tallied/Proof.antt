@@ -8,7 +8,7 @@ use borrow.Author.Needs.{needs}
 use Rattle.rules.specs.Words.{countOf}
 use Rattle.words.proofs.BookCode.{book-long}
 use Rattle.cells.proofs.ScanLaws.{readAt}
-use Rattle.tally.proofs.TallyLaws.{SoFar, Adds, tallyTo, none-yet, all-read, adds-same, bought-to, own-adds, own-none, sold-adds, sold-none}
+use Rattle.tally.proofs.TallyLaws.{SoFar, Adds, tallyTo, none-yet, all-read, adds-same, bought-to, own-adds, not-own, not-summed, sold-adds, sold-none}
 use Rattle.tally.proofs.tallied.Statement.{statement}
 use Rattle.tally.proofs.tallied.Tie as tie
 
@@ -19,13 +19,13 @@ abbrev μ-loop : tie.MeasureT-loop
 μ-loop book day t₀ count own dated sold bought₀ i₀ t bought i = count - i
 
 -- in a turn whose entry counts: the turn, the call's arguments, and what the entry adds
-abbrev turn : tie.Then1 Inv-loop μ-loop → tie.At-loop Inv-loop μ-loop
-turn c = c .before .before .before .before .before .before
+abbrev turn : tie.Then2 Inv-loop μ-loop → tie.At-loop Inv-loop μ-loop
+turn c = c .before .before .before .before .before .before .before
 
-abbrev start : tie.Then1 Inv-loop μ-loop → tie.Start Inv-loop μ-loop
+abbrev start : tie.Then2 Inv-loop μ-loop → tie.Start Inv-loop μ-loop
 start c = turn c .before .before .before
 
-adds : (c : tie.Then1 Inv-loop μ-loop) →
+adds : (c : tie.Then2 Inv-loop μ-loop) →
     Adds
     (tallyTo (start c .args .book .now) (start c .args .t1 .party) (start c .args .day) (turn c .loop .i))
     (getD (start c .args .book .now) (3 + 5 * turn c .loop .i + 2) 0 % 256)
@@ -33,7 +33,7 @@ adds : (c : tie.Then1 Inv-loop μ-loop) →
     (tallyTo (start c .args .book .now) (start c .args .t1 .party) (start c .args .day) (turn c .loop .i + 1))
 adds c =
     own-adds (start c .args .book .now) (start c .pre .0) (start c .args .t1 .party) (start c .args .day) (turn c .loop .i) (omega arith)
-    (rw (c .before .is-volume .ensures) at (c .if1 .taken))
+    (c .before .before .if1 .taken) (rw (c .before .is-volume .ensures) at (c .if2 .taken))
 
 count-of-requires : tie.Need-count-of-requires Inv-loop μ-loop
 count-of-requires c κs = let s = c .before in book-long (s .args .book .now) (s .pre .0)
@@ -119,12 +119,12 @@ amount-at-requires-2 c κs = search needs
 
 add-bought : tie.Need-add-bought Inv-loop μ-loop
 add-bought c =
-    let l = c .before .before .before .before .before .before .before .before in
+    let l = c .before .before .before .before .before .before .before in
     let s = l .before .before .before in
     let n : l .loop .i < countOf (s .args .book .now) = omega arith in
     omega (
       arith,
-      sold-adds (s .args .book .now) (s .pre .0) (s .args .t1 .party) (s .args .day) (l .loop .i) n (s .pre .1 .0) (c .before .if2 .taken),
+      sold-adds (s .args .book .now) (s .pre .0) (s .args .t1 .party) (s .args .day) (l .loop .i) n (s .pre .1 .0) (c .before .if3 .taken),
       bought-to (s .args .book .now) (s .pre .0) (s .args .t1 .party) (s .args .day) (l .loop .i + 1) (omega arith),
     )
 
@@ -136,26 +136,27 @@ loop-less c = search needs
 
 loop-again : tie.Need-loop-again Inv-loop μ-loop
 loop-again c =
-    let l = c .before .before .before .before .before .before .before in
+    let l = c .before .before .before .before .before .before in
     let s = l .before .before .before in
     let ws = s .args .book .now in
     let p = s .args .t1 .party in
     let d = s .args .day in
     let n : l .loop .i < countOf ws = omega arith in
-    let volume = c .before .before .is-volume .ensures in
     record {
       within = omega arith;
       room = l .loop .inv .room;
       tally =
           ⊎-elim
-          (λ w. adds-same (own-adds ws (s .pre .0) p d (l .loop .i) n (rw volume at (w .0 .taken))) (l .loop .inv .tally) (w .1 .ensures) (w .3 .ensures) (w .4))
-          (λ w. w .1 ∙ l .loop .inv .tally ∙ sym (own-none ws (s .pre .0) p d (l .loop .i) n (rw volume at (w .0 .left))))
+          (λ w. adds-same (own-adds ws (s .pre .0) p d (l .loop .i) n (w .0 .taken) (rw (w .1 .ensures) at (w .2 .taken))) (l .loop .inv .tally) (w .3 .ensures) (w .5 .ensures) (w .6))
+          (⊎-elim
+          (λ w. w .3 ∙ l .loop .inv .tally ∙ sym (not-summed ws (s .pre .0) p d (l .loop .i) n (rw (w .1 .ensures) at (w .2 .left))))
+          (λ w. w .1 ∙ l .loop .inv .tally ∙ sym (not-own ws (s .pre .0) p d (l .loop .i) n (w .0 .left))))
           (c .before .if1 .came);
       bought-is =
           ⊎-elim
           (λ w. omega (arith, sold-adds ws (s .pre .0) p d (l .loop .i) n (s .pre .1 .0) (w .0 .taken), w .1 .ensures))
           (λ w. w .1 ∙ l .loop .inv .bought-is ∙ sym (sold-none ws (s .pre .0) p d (l .loop .i) n (s .pre .1 .0) (w .0 .left)))
-          (c .if2 .came);
+          (c .if3 .came);
     }
 
 returns : tie.Need-returns Inv-loop μ-loop
