@@ -24,7 +24,7 @@ use Rattle.former.specs.Former.{Copy, until06, until02, present, isTypeB
 use Rattle.former.specs.Promise.{knownBy, inItem, inCall, typeFits, amountFits, fits, recordFits, narrowBy, Stays, isFaultless}
 
 -- a copy's types are those of today's that it knows
-type-by : (c : Copy) (t : ℕ) → isTypeBy c t ≡ isType t && knownBy c t
+type-by : (c : Copy) (t : ℕ) → isTypeBy c t ≡ isType t && knownBy (c .updates) t
 type-by c t =
     elim (bool-cases (eqb t updatedProgram)) [
       | inl e ↦ rw (eqb-true t updatedProgram e) (update (c .updates))
@@ -39,30 +39,32 @@ type-by c t =
     other true v m = sym (and-true _)
     other false v m = sym (and-true _)
 
-known-type : (c : Copy) (t : ℕ) → knownBy c t ≡ true → isTypeBy c t ≡ isType t
+known-type : (c : Copy) (t : ℕ) → knownBy (c .updates) t ≡ true → isTypeBy c t ≡ isType t
 known-type c t e = type-by c t ∙ ap (λ k. isType t && k) e ∙ and-true (isType t)
 
 type-now : (c : Copy) (t : ℕ) → isTypeBy c t ≡ true → isType t ≡ true
-type-now c t e = and-split (isType t) (knownBy c t) (sym (type-by c t) ∙ e) .0
+type-now c t e = and-split (isType t) (knownBy (c .updates) t) (sym (type-by c t) ∙ e) .0
+
+-- the types of records are known
+abbrev pub allKnown : Bool → List Record → Bool
+allKnown updates rs = all (λ r. knownBy updates (key r .type)) rs
 
 -- a copy with today's limits: where it knows the types, each test is today's
-abbrev pub knownIn : Copy → Record → Bool
-knownIn c r = knownBy c (key r .type)
 
 module _ (c : Copy) (m : c .money ≡ mostMoney) (h : c .high ≡ highAmounts) where
-  same-fault : (k : Key) (a : ℕ) → knownBy c (k .type) ≡ true → faultBy c k a ≡ fault k a
+  same-fault : (k : Key) (a : ℕ) → knownBy (c .updates) (k .type) ≡ true → faultBy c k a ≡ fault k a
   unfolding faultBy fault limitBy amountLimit
   same-fault k a e = rw (known-type c (k .type) e, m)
 
-  same-entries : (n : ℕ) (ws : List ℕ) → all (knownIn c) (readEntries n ws) ≡ true → entriesOkBy c n ws ≡ entriesOk n ws
+  same-entries : (n : ℕ) (ws : List ℕ) → allKnown (c .updates) (readEntries n ws) ≡ true → entriesOkBy c n ws ≡ entriesOk n ws
   unfolding entriesOkBy entriesOk entryOkBy entryOk legalBy legal readEntries all
   same-entries zero ws e = refl
   same-entries (suc n) ws e =
-      let s = and-split (knownIn c (decode ws)) (all (knownIn c) (readEntries n (drop 5 ws))) e in
+      let s = and-split (knownBy (c .updates) (key (decode ws) .type)) (allKnown (c .updates) (readEntries n (drop 5 ws))) e in
       let r = decode ws in
       rw (same-fault (key r) (r .amount) (s .0), same-entries n (drop 5 ws) (s .1))
 
-  pub same-book : (ws : List ℕ) → all (knownIn c) (entries ws) ≡ true → isBookBy c ws ≡ isBook ws
+  pub same-book : (ws : List ℕ) → allKnown (c .updates) (entries ws) ≡ true → isBookBy c ws ≡ isBook ws
   unfolding isBookBy isBook entries
   same-book ws e = rw (same-entries (countOf ws) (drop 3 ws) e)
 
@@ -87,7 +89,7 @@ module _ (c : Copy) (m : c .money ≡ mostMoney) (h : c .high ≡ highAmounts) w
   unfolding itemCauseBy itemCause all
   same-items rs [] e = refl
   same-items rs (line k a ∷ is) e =
-      let s = and-split (knownBy c (k .type)) (all (inItem (typeFits c)) is) e in
+      let s = and-split (knownBy (c .updates) (k .type)) (all (inItem (typeFits c)) is) e in
       rw (same-fault k a (s .0), same-items rs is (s .1))
   same-items rs (emptyBlock p d ∷ is) e = rw (same-items rs is e)
 
@@ -98,7 +100,7 @@ module _ (c : Copy) (m : c .money ≡ mostMoney) (h : c .high ≡ highAmounts) w
   same-refusal f rs (control d) e = refl
   same-refusal f rs (file bs) e = rw (same-file bs, same-items rs (items bs) e)
 
-  pub same-cause : (ws : List ℕ) (call : Change) → all (knownIn c) (entries ws) ≡ true → inCall (typeFits c) call ≡ true → machineBy c .cause ws call ≡ causeOf ws call
+  pub same-cause : (ws : List ℕ) (call : Change) → allKnown (c .updates) (entries ws) ≡ true → inCall (typeFits c) call ≡ true → machineBy c .cause ws call ≡ causeOf ws call
   unfolding causeOf
   same-cause ws call b e = rw (same-book ws b, same-refusal (frameOf ws) (entries ws) call e)
 
@@ -139,7 +141,7 @@ call-known (withdraw n) = refl
 call-known (control d) = refl
 call-known (file bs) = item-known (items bs)
 
-pub all-known : (rs : List Record) → all (knownIn present) rs ≡ true
+pub all-known : (rs : List Record) → allKnown true rs ≡ true
 all-known rs = all-holds rs
 
 pub present-book : (ws : List ℕ) → isBookBy present ws ≡ isBook ws
@@ -248,14 +250,14 @@ module _ (c : Copy) (o : Older c) where
       clear-else (partyOk (k .party)) 2 _ _ _
       (clear-else (dayOk (k .day)) 3 _ _ _
       (rw (type-by c (k .type))
-      (clear-known (isType (k .type)) (knownBy c (k .type)) 4 _ _ _
+      (clear-known (isType (k .type)) (knownBy (c .updates) (k .type)) 4 _ _ _
       (clear-else (counterpartyOk k) 5 _ _ _ (clear-last _ _ 6 (amount-now (k .type) a))))))
 
   -- a mark's type is known, and its amount 0
   mark-fits : (r : Record) → markOk r ≡ true → recordFits c r ≡ true
   mark-fits r m =
       let f = mark-facts r m in
-      and-join (knownBy c (key r .type)) (leb (r .amount) (limitBy c (key r .type))) (rw (f .0) (either (c .updates))) (le-leb (r .amount) (limitBy c (key r .type)) (rw (f .1) zero-le))
+      and-join (knownBy (c .updates) (key r .type)) (leb (r .amount) (limitBy c (key r .type))) (rw (f .0) (either (c .updates))) (le-leb (r .amount) (limitBy c (key r .type)) (rw (f .1) zero-le))
     where
       either : (u : Bool) → u || true ≡ true
       either true = refl
@@ -434,23 +436,23 @@ module _ (c : Copy) (o : Older c) where
       (refusal-kept (frameOf ws) (entries ws) call)
 
   -- a post of a type that the copy does not know, and a file with such a line and no fault that today's copy finds
-  fault-unknown : (k : Key) (a : ℕ) → partyOk (k .party) ≡ true → dayOk (k .day) ≡ true → knownBy c (k .type) ≡ false → faultBy c k a ≡ badType
+  fault-unknown : (k : Key) (a : ℕ) → partyOk (k .party) ≡ true → dayOk (k .day) ≡ true → knownBy (c .updates) (k .type) ≡ false → faultBy c k a ≡ badType
   unfolding faultBy
   fault-unknown k a p d e = rw (p, d, type-by c (k .type), e, and-false (isType (k .type)))
 
   pub post-unknown : (ws : List ℕ) (k : Key) (a : ℕ) → isBookBy c ws ≡ true → partyOk (k .party) ≡ true → dayOk (k .day) ≡ true →
-      knownBy c (k .type) ≡ false → machineBy c .cause ws (post k a) ≡ badType
+      knownBy (c .updates) (k .type) ≡ false → machineBy c .cause ws (post k a) ≡ badType
   unfolding refusalBy
   post-unknown ws k a b p d e = rw (b, fault-unknown k a p d e)
 
   line-unknown : (rs : List Record) (k : Key) (a : ℕ) → itemCause rs (line k a) ≡ 0 → amountFits c k a ≡ true →
-      itemCauseBy c rs (line k a) ≡ unless (knownBy c (k .type)) badType
+      itemCauseBy c rs (line k a) ≡ unless (knownBy (c .updates) (k .type)) badType
   unfolding itemCauseBy itemCause faultBy fault
   line-unknown rs k a z e =
       let s = clear-all (fault k a ∷ unless (not (shutTo k rs)) dayClosed ∷ []) z in
       let f = clear-all (unless (partyOk (k .party)) badParty ∷ unless (dayOk (k .day)) badDay ∷ unless (isType (k .type)) badType ∷ unless (counterpartyOk k) badCounterparty ∷ unless (leb a (amountLimit (k .type))) badAmount ∷ []) (s .0) in
       rw (unless-zero (partyOk (k .party)) 2 (f .0), unless-zero (dayOk (k .day)) 3 (f .1 .0), type-by c (k .type), unless-zero (isType (k .type)) 4 (f .1 .1 .0), unless-zero (counterpartyOk k) 5 (f .1 .1 .1 .0), e, unless-zero (not (shutTo k rs)) 7 (s .1 .0))
-      (only (knownBy c (k .type)))
+      (only (knownBy (c .updates) (k .type)))
     where
       only : (b : Bool) → orElse (orElse (unless b badType) 0) 0 ≡ unless b badType
       only true = refl
@@ -467,7 +469,7 @@ module _ (c : Copy) (o : Older c) where
   items-unknown rs (line k a ∷ is) z e =
       let zs = else-split (itemCause rs (line k a)) _ z in
       let s = and-split (amountFits c k a) (all (inItem (amountFits c)) is) e in
-      rw (line-unknown rs k a (zs .0) (s .0), items-unknown rs is (zs .1) (s .1)) (either (knownBy c (k .type)) (all (inItem (typeFits c)) is))
+      rw (line-unknown rs k a (zs .0) (s .0), items-unknown rs is (zs .1) (s .1)) (either (knownBy (c .updates) (k .type)) (all (inItem (typeFits c)) is))
     where
       either : (x y : Bool) → orElse (unless x badType) (unless y badType) ≡ unless (x && y) badType
       either true y = refl

@@ -1,7 +1,7 @@
 -- What is promised of an older copy holds of every copy whose limits are not above today's (02, T-06 and T-02). Assumes nothing.
 use mathlib.Core.Path.{_≡_, refl, sym, ap, _∙_}
 use mathlib.Core.Logic.{inl, inr, _≢_}
-use mathlib.Core.Bool.{Bool, true, false, not, _&&_, _||_, true≢false}
+use mathlib.Core.Bool.{Bool, true, false, not, _&&_, true≢false}
 use mathlib.Core.List.{List, [], _∷_, _++_, map}
 use Prim.Native.Nat.{ℕ, zero, suc, _+_, _*_, _≤_, _<_}
 use native.Mathlib.Omega.{arith}
@@ -13,7 +13,7 @@ use Rattle.numbers.specs.Sums.{total}
 use Rattle.numbers.specs.Tests.{all}
 use Rattle.numbers.specs.Causes.{firstOf, ifDone}
 use Rattle.numbers.proofs.TestLaws.{bool-cases, and-split, and-join, all-append, all-getD}
-use Rattle.rules.specs.Entry.{Key, Record, keyOf, noRecord, key, updatedProgram, isMoney, partyOk, dayOk}
+use Rattle.rules.specs.Entry.{Key, Record, keyOf, noRecord, key, isMoney, partyOk, dayOk}
 use Rattle.rules.specs.Words.{lowAmounts, valueAt, decode, isBook, entries, countOf, coefficientOf, toleranceOf}
 use Rattle.rules.specs.Book.{placeOf, entryAt, countCause, countAnswer, readCause, readAnswer}
 use Rattle.rules.specs.Balance.{Volume, dayAhead, delivery, sumOf, boughtBy, tallyOf, noTally, acquired, programUsed, saleSide, coverSide, balanceOf, partyDayCause, balanceAnswer, tallyAnswer}
@@ -29,24 +29,21 @@ use Rattle.rules.proofs.BookLaws.{entry-at}
 use Rattle.rules.proofs.CallLaws.{entries-count}
 use Rattle.former.specs.Former.{Copy, until06, until02, present, limitBy, isBookBy, isFileBy, refusalBy, machineBy, tallyOfBy, noTallyBy, coverSideBy, formulaBy, balanceOn, detectedBy, askedBy, balanceBy, tallyBy, caseCauseBy, collateralBy, countCauseBy, countBy, readCauseBy, entryBy}
 use Rattle.former.specs.Promise.{knownBy, inItem, inCall, typeFits, amountFits, recordFits, narrowBy, grown, Stays, ReadsAlike, ActsAlike, RefusesAll, Promise}
-use Rattle.former.proofs.CopyLaws.{Older, until06-older, until02-older, none-stays, limit-carried, book-by, book-now, file-by, cause-fits, cause-kept, post-unknown, file-unknown, file-faultless, amounts-now, same-book, same-cause, all-known, present-book, present-cause}
+use Rattle.former.proofs.CopyLaws.{Older, until06-older, until02-older, none-stays, limit-carried, book-by, book-now, file-by, cause-fits, cause-kept, post-unknown, file-unknown, file-faultless, amounts-now, same-book, same-cause, allKnown, all-known, present-book, present-cause}
 
 -- sum 22 of records without the type is 0
-no-updates : (p d : ℕ) (rs : List Record) → all (λ r. not (eqb (key r .type) updatedProgram)) rs ≡ true → sumOf p d 22 rs ≡ 0
+no-updates : (p d : ℕ) (rs : List Record) → allKnown false rs ≡ true → sumOf p d 22 rs ≡ 0
 unfolding sumOf total all
 no-updates p d [] e = refl
 no-updates p d (r ∷ rs) e =
-    let s = and-split (not (eqb (key r .type) updatedProgram)) (all (λ r. not (eqb (key r .type) updatedProgram)) rs) e in
+    let s = and-split (knownBy false (key r .type)) (allKnown false rs) e in
     elim (counted-cases p d 22 r) [
       | inl z ↦ rw (z, no-updates p d rs (s .1))
       | inr c ↦ absurd (eqb-false (key r .type) 22 (not-true _ (s .0)) (c .0 .type))
     ]
 
 -- the sums and sides of a copy's balances over records whose types it knows; those of the day-ahead over all
-abbrev Known : Bool → List Record → Type 0
-Known updates rs = all (λ r. updates || not (eqb (key r .type) updatedProgram)) rs ≡ true
-
-tally-alike : (u : Bool) (p d : ℕ) (rs : List Record) → Known u rs → grown u (tallyOfBy u p d rs) ≡ tallyOf p d rs
+tally-alike : (u : Bool) (p d : ℕ) (rs : List Record) → allKnown u rs ≡ true → grown u (tallyOfBy u p d rs) ≡ tallyOf p d rs
 unfolding tallyOfBy tallyOf
 tally-alike true p d rs e = refl
 tally-alike false p d rs e = rw (no-updates p d rs e)
@@ -62,7 +59,7 @@ unfolding coverSideBy coverSide programUsed acquired tallyOfBy tallyOf total
 cover-ahead true p d B rs = refl
 cover-ahead false p d B rs = omega arith
 
-cover-alike : (u : Bool) (v : Volume) (p d B : ℕ) (rs : List Record) → Known u rs → coverSideBy u v (tallyOfBy u p d rs) B ≡ coverSide v (tallyOf p d rs) B
+cover-alike : (u : Bool) (v : Volume) (p d B : ℕ) (rs : List Record) → allKnown u rs ≡ true → coverSideBy u v (tallyOfBy u p d rs) B ≡ coverSide v (tallyOf p d rs) B
 unfolding coverSideBy coverSide programUsed acquired tallyOfBy tallyOf total
 cover-alike true v p d B rs e = refl
 cover-alike false delivery p d B rs e = omega (arith, no-updates p d rs e)
@@ -79,7 +76,7 @@ tally-done u zero t = refl
 tally-done true (suc k) t = refl
 tally-done false (suc k) t = refl
 
-reads-alike : (c : Copy) (ws : List ℕ) → isBookBy c ws ≡ isBook ws → Known (c .updates) (entries ws) → ReadsAlike c ws
+reads-alike : (c : Copy) (ws : List ℕ) → isBookBy c ws ≡ isBook ws → allKnown (c .updates) (entries ws) ≡ true → ReadsAlike c ws
 unfolding countBy countCauseBy countAnswer countCause entryBy readCauseBy readAnswer readCause tallyBy tallyAnswer balanceBy balanceAnswer askedBy partyDayCause collateralBy caseCauseBy collateralAnswer collateralCause
 reads-alike c ws e k =
     record {
@@ -133,7 +130,7 @@ module _ (c : Copy) (o : Older c) where
   above-limit a u v l e h k g = absurd (omega arith)
 
   -- each entry of a book of the copy is of a type that it knows, its amount within the limit
-  entry-fits : (ws : List ℕ) (n : ℕ) → n < countOf ws → isBookBy c ws ≡ true → (knownBy c (key (entryAt ws n) .type) ≡ true) × (entryAt ws n .amount ≤ limitBy c (key (entryAt ws n) .type))
+  entry-fits : (ws : List ℕ) (n : ℕ) → n < countOf ws → isBookBy c ws ≡ true → (knownBy (c .updates) (key (entryAt ws n) .type) ≡ true) × (entryAt ws n .amount ≤ limitBy c (key (entryAt ws n) .type))
   entry-fits ws n h e =
       let r = entryAt ws n in
       let l : n < length (entries ws) = rw (entries-count ws) h in
@@ -156,7 +153,7 @@ module _ (c : Copy) (o : Older c) where
   same-words : (ws : List ℕ) → isBookBy c ws ≡ true → isBookBy c ws ≡ isBook ws
   same-words ws e = e ∙ sym (book-now c o ws e .0)
 
-  known-entries : (rs : List Record) → all (recordFits c) rs ≡ true → Known (c .updates) rs
+  known-entries : (rs : List Record) → all (recordFits c) rs ≡ true → allKnown (c .updates) rs ≡ true
   unfolding all
   known-entries [] e = refl
   known-entries (r ∷ rs) e =

@@ -24,8 +24,8 @@ use Rattle.rules.specs.declared.TallyAnswer.{TallyAnswer}
 use Rattle.former.specs.Former.{Copy, limitBy, isBookBy, isFileBy, machineBy, detectedBy, countBy, entryBy, tallyBy, balanceBy, collateralBy}
 
 -- of today's types a copy may not know 22; what a test of types and amounts says of each line of a file and of each call
-abbrev pub knownBy : Copy → ℕ → Bool
-knownBy c t = c .updates || not (eqb t updatedProgram)
+abbrev pub knownBy : Bool → ℕ → Bool
+knownBy updates t = updates || not (eqb t updatedProgram)
 
 abbrev pub inItem : (Key → ℕ → Bool) → Item → Bool
 inItem test (line k a) = test k a
@@ -39,7 +39,7 @@ inCall test (file bs) = all (inItem test) (items bs)
 
 -- a type is known to the copy; an amount is within its limit of the type; both
 abbrev pub typeFits : Copy → Key → ℕ → Bool
-typeFits c k a = knownBy c (k .type)
+typeFits c k a = knownBy (c .updates) (k .type)
 
 abbrev pub amountFits : Copy → Key → ℕ → Bool
 amountFits c k a = leb a (limitBy c (k .type))
@@ -111,8 +111,8 @@ pub record Promise (c : Copy) : Type 0 where
   pub newFile : (ws bs : List ℕ) → isBookBy c ws ≡ true → all (narrowBy c) (items bs) ≡ false → machineBy c .cause ws (file bs) ≡ badFile
   -- a book with an entry of a type that it does not know it refuses by 1, a post of one by 5,
   -- and by 5 a file with such a line in which today's copy finds no fault and no amount is above its limit
-  pub newTypeBook : (ws : List ℕ) (n : ℕ) → n < countOf ws → knownBy c (key (entryAt ws n) .type) ≡ false → RefusesAll c ws
+  pub newTypeBook : (ws : List ℕ) (n : ℕ) → n < countOf ws → knownBy (c .updates) (key (entryAt ws n) .type) ≡ false → RefusesAll c ws
   pub newTypePost : (ws : List ℕ) → isBookBy c ws ≡ true → (k : Key) (a : ℕ) → partyOk (k .party) ≡ true → dayOk (k .day) ≡ true →
-      knownBy c (k .type) ≡ false → machineBy c .cause ws (post k a) ≡ badType
+      knownBy (c .updates) (k .type) ≡ false → machineBy c .cause ws (post k a) ≡ badType
   pub newTypeFile : (ws bs : List ℕ) → isBookBy c ws ≡ true → isFaultless ws bs ≡ true → all (inItem (amountFits c)) (items bs) ≡ true →
       all (inItem (typeFits c)) (items bs) ≡ false → machineBy c .cause ws (file bs) ≡ badType

@@ -29,21 +29,22 @@ updates-alike k a b e h g = amounts (inl (inr e, h)) (inl (inr e, g))
 pub moneys-alike : (k : Key) (a b : ℕ) → 17 ≤ k .type → k .type ≤ 20 → a ≤ 10000000000000 → b ≤ 10000000000000 → AlikeCalls (post k a) (post k b)
 moneys-alike k a b low high h g = amounts (inr (low, high, h)) (inr (low, high, g))
 
--- a sale is no type of cover, nor is money
-no-cover : {A : Type 0} (t : ℕ) → CoverType t → t ≤ 6 → A
-no-cover t (inl c) h = absurd (omega arith)
-no-cover t (inr e) h = absurd (omega arith)
+-- a type that is no cover: a sale's, or money's
+abbrev OtherType : ℕ → Type 0
+OtherType t = (t ≤ 6) ⊎ ((17 ≤ t) × (t ≤ 20))
 
-money-covers : {A : Type 0} (t : ℕ) → CoverType t → 17 ≤ t → t ≤ 20 → A
-money-covers t (inl c) low high = absurd (omega arith)
-money-covers t (inr e) low high = absurd (omega arith)
+no-cover : {A : Type 0} (t : ℕ) → OtherType t → CoverType t → A
+no-cover t (inl h) (inl c) = absurd (omega arith)
+no-cover t (inl h) (inr e) = absurd (omega arith)
+no-cover t (inr h) (inl c) = absurd (omega arith)
+no-cover t (inr h) (inr e) = absurd (omega arith)
 
 module _ (p d a b : ℕ) where
   -- a standing sale no larger, types 1 to 6 to another party
   pub smaller-sale : (t c : ℕ) → t ≤ 6 → ¬ (c ≡ p) → b ≤ a → NoWorse p d (recordOf (keyOf p d t c) 0 a) (recordOf (keyOf p d t c) 0 b)
   smaller-sale t c high other h = (
     (λ st sale. h),
-    λ st cover. elim cover [ inl x ↦ no-cover t (x .2) high | inr x ↦ absurd (other (x .1)) ],
+    λ st cover. elim cover [ inl x ↦ no-cover t (inl high) (x .2) | inr x ↦ absurd (other (x .1)) ],
   )
 
   -- a standing item of cover no smaller: types 7 to 16 and 22, and a sale to the party by another
@@ -72,7 +73,7 @@ module _ (p d a b : ℕ) where
   pub money-entry : (q t c : ℕ) → 17 ≤ t → t ≤ 20 → NoWorse p d (recordOf (keyOf q d t c) 0 a) (recordOf (keyOf q d t c) 0 b)
   money-entry q t c low high = (
     (λ st sale. absurd (omega (arith, sale .3))),
-    λ st cover. elim cover [ inl x ↦ money-covers t (x .2) low high | inr x ↦ absurd (omega (arith, x .0)) ],
+    λ st cover. elim cover [ inl x ↦ no-cover t (inr (low, high)) (x .2) | inr x ↦ absurd (omega (arith, x .0)) ],
   )
 
   -- records that name another party may differ, and those that do not stand
