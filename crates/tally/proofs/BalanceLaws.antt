@@ -91,9 +91,9 @@ pub sale-within : (t : Tally) → EachSum (t .sums) → saleSide dayAhead t ≤ 
 unfolding saleSide total
 sale-within t e = omega arith
 
-pub cover-within : (t : Tally) (program B : ℕ) → EachSum (t .sums) → program ≤ mostSum → B ≤ mostSum → coverWith t program B ≤ 8 * mostSum
+pub cover-within : (t : Tally) {program B c : ℕ} → c ≡ coverWith t program B → EachSum (t .sums) → program ≤ mostSum → B ≤ mostSum → c ≤ 8 * mostSum
 unfolding coverWith acquired total
-cover-within t program B e p b = omega arith
+cover-within t q e p b = omega arith
 
 -- delivery is the day-ahead and the intraday sums
 pub sale-delivery : (t : Tally) → saleSide delivery t ≡ saleSide dayAhead t + getD (t .sums) 1 0 + getD (t .sums) 4 0

@@ -19,13 +19,13 @@ cover-with-requires : tie.Need-cover-with-requires
 cover-with-requires c κs =
     let p = c .before .before in
     let e = each-sum (p .args .t) (p .pre .sums) in
-    (p .pre .sums, (e .sum-12, p .pre .bought))
+    (p .pre .sums, (omega arith, p .pre .bought))
 
 balanced-requires : tie.Need-balanced-requires
 balanced-requires c κs =
     let p = c .before .before .before in
     let e = each-sum (p .args .t) (p .pre .sums) in
-    omega (arith, sale-within (p .args .t) e, cover-within (p .args .t) _ (p .args .bought) e (e .sum-12) (p .pre .bought))
+    omega (arith, sale-within (p .args .t) e, cover-within (p .args .t) (c .cover-with .ensures) e (omega arith) (p .pre .bought))
 
 returns : tie.Need-returns
 returns c =

@@ -19,11 +19,11 @@ sums s = each-sum (s .args .t) (s .pre .sums)
 abbrev start : tie.After-cover-with → tie.Start
 start c = c .before .before .before .before
 
-covered : (c : tie.After-cover-with) → coverWith (start c .args .t) (c .before .raised .result) (start c .args .bought) ≤ 8 * mostSum
+covered : (c : tie.After-cover-with) → c .cover-with .result ≤ 8 * mostSum
 covered c =
     let s = start c in
     let e = sums s in
-    cover-within (s .args .t) (c .before .raised .result) (s .args .bought) e (omega arith) (s .pre .bought)
+    cover-within (s .args .t) (c .cover-with .ensures) e (omega arith) (s .pre .bought)
 
 ahead-sale-requires : tie.Need-ahead-sale-requires
 ahead-sale-requires c κs = search needs
