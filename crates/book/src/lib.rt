@@ -50,7 +50,7 @@ pub fn is_book(book: &[u32]) -> bool
     words::entries_ok(book, count)
 }
 
-// Opens a book with coefficient R and tolerance amount TM: three words are written and no other.
+// Opens a book with coefficient R and tolerance amount TM: three words are written and no other, that with the count last.
 pub fn open(book: &mut [u32], coefficient: u32, tolerance: u32) -> u32
     ensures answer { λ r. ⌜ r ≡ openCause (length (now (book .entry))) coefficient tolerance ⌝ }
     ensures words { λ r. ⌜ now (book .exit) ≡ openWords (now (book .entry)) coefficient tolerance ⌝ }
@@ -64,9 +64,9 @@ pub fn open(book: &mut [u32], coefficient: u32, tolerance: u32) -> u32
     if MOST_TOLERANCE < tolerance {
         return BAD_FIGURE;
     }
-    book[0] = COUNT_WORD;
     book[1] = COEFFICIENT_WORD + coefficient;
     book[2] = TOLERANCE_WORD + tolerance;
+    book[0] = COUNT_WORD;
     0
 }
 
@@ -172,7 +172,8 @@ pub fn count(book: &[u32]) -> Counted
     }
 }
 
-fn no_read(cause: u32) -> EntryRead
+// The entry of a refusal: each figure is zero.
+pub fn no_read(cause: u32) -> EntryRead
     ensures { λ r. ⌜ r ≡ noRead cause ⌝ }
 {
     EntryRead {

@@ -8,21 +8,23 @@ ghost use Rattle.rules.specs.Book.{openCause, openWords, openDefaultCause, open
 ghost use Rattle.rules.specs.Calls.{causeOf, wordsAfter, postAnswer};
 ghost use Rattle.rules.specs.Calls as calls;
 ghost use Rattle.word_bytes.specs.Bytes.{onWords, withWords, yesNo};
+use byte_calls::changes;
+use byte_calls::changes::Request;
+use byte_calls::openings;
+use byte_calls::reads;
+use byte_calls::reads::Question;
 use rules::Counted;
 use rules::EntryRead;
 use rules::Key;
 use rules::Posted;
-use rules::causes::NOT_A_BOOK;
-use rules::layout::BOOK_WORDS;
 
 // 1 if the bytes are a book, else 0.
 #[no_mangle]
 pub extern "C" fn fanzsoreb_is_book(book: &[u8]) -> u32
     ensures { λ r. ⌜ r ≡ onWords (now (book .entry)) (λ ws. yesNo (isBook ws)) 0 ⌝ }
 {
-    let mut words = [0u32; BOOK_WORDS];
-    let n = word_bytes::decode(book, &mut words);
-    book::is_book(&words[..n]) as u32
+    let reply = reads::ask(book, Question::Count);
+    (reply.counted.answer == 0) as u32
 }
 
 // Opens a book with coefficient R in hundredths and tolerance amount TM in kWh.
@@ -31,14 +33,7 @@ pub extern "C" fn fanzsoreb_open(book: &mut [u8], coefficient: u32, tolerance: u
     ensures answer { λ r. ⌜ r ≡ onWords (now (book .entry)) (λ ws. openCause (length ws) coefficient tolerance) notABook ⌝ }
     ensures bytes { λ r. ⌜ now (book .exit) ≡ withWords (now (book .entry)) (λ ws. openWords ws coefficient tolerance) ⌝ }
 {
-    if !word_bytes::is_whole(book) {
-        return NOT_A_BOOK;
-    }
-    let mut words = [0u32; BOOK_WORDS];
-    let n = word_bytes::decode(book, &mut words);
-    let opened = book::open(&mut words[..n], coefficient, tolerance);
-    word_bytes::write_back(opened, &words[..n], book);
-    opened
+    openings::open(book, coefficient, tolerance)
 }
 
 // Opens a book with the figures of an opening that names none.
@@ -47,14 +42,7 @@ pub extern "C" fn fanzsoreb_open_default(book: &mut [u8]) -> u32
     ensures answer { λ r. ⌜ r ≡ onWords (now (book .entry)) (λ ws. openDefaultCause (length ws)) notABook ⌝ }
     ensures bytes { λ r. ⌜ now (book .exit) ≡ withWords (now (book .entry)) openDefaultWords ⌝ }
 {
-    if !word_bytes::is_whole(book) {
-        return NOT_A_BOOK;
-    }
-    let mut words = [0u32; BOOK_WORDS];
-    let n = word_bytes::decode(book, &mut words);
-    let cause = book::open_default(&mut words[..n]);
-    word_bytes::write_back(cause, &words[..n], book);
-    cause
+    openings::open_default(book)
 }
 
 // Appends one standing entry and answers its number, counted from 0.
@@ -70,17 +58,17 @@ pub extern "C" fn fanzsoreb_post(
     ensures answer { λ r. ⌜ r ≡ onWords (now (book .entry)) (λ ws. postAnswer ws (keyOf party day «entry_type» counterparty) amount) (record { answer = notABook; number = 0 }) ⌝ }
     ensures bytes { λ r. ⌜ now (book .exit) ≡ withWords (now (book .entry)) (λ ws. wordsAfter ws (calls.post (keyOf party day «entry_type» counterparty) amount)) ⌝ }
 {
-    let mut words = [0u32; BOOK_WORDS];
-    let n = word_bytes::decode(book, &mut words);
     let key = Key {
         party,
         day,
         entry_type,
         counterparty,
     };
-    let posted = book::post(&mut words[..n], key, amount);
-    word_bytes::write_back(posted.answer, &words[..n], book);
-    posted
+    let done = changes::change(book, Request::Post(key, amount));
+    Posted {
+        answer: done.answer,
+        number: done.number,
+    }
 }
 
 // Gives the entry of this number status 1.
@@ -89,11 +77,8 @@ pub extern "C" fn fanzsoreb_withdraw(book: &mut [u8], number: u32) -> u32
     ensures answer { λ r. ⌜ r ≡ onWords (now (book .entry)) (λ ws. causeOf ws (calls.withdraw number)) notABook ⌝ }
     ensures bytes { λ r. ⌜ now (book .exit) ≡ withWords (now (book .entry)) (λ ws. wordsAfter ws (calls.withdraw number)) ⌝ }
 {
-    let mut words = [0u32; BOOK_WORDS];
-    let n = word_bytes::decode(book, &mut words);
-    let withdrawn = book::withdraw(&mut words[..n], number);
-    word_bytes::write_back(withdrawn, &words[..n], book);
-    withdrawn
+    let done = changes::change(book, Request::Withdraw(number));
+    done.answer
 }
 
 // The number of entries, of every status.
@@ -101,9 +86,8 @@ pub extern "C" fn fanzsoreb_withdraw(book: &mut [u8], number: u32) -> u32
 pub extern "C" fn fanzsoreb_count(book: &[u8]) -> Counted
     ensures { λ r. ⌜ r ≡ onWords (now (book .entry)) countAnswer (record { answer = notABook; count = 0 }) ⌝ }
 {
-    let mut words = [0u32; BOOK_WORDS];
-    let n = word_bytes::decode(book, &mut words);
-    book::count(&words[..n])
+    let reply = reads::ask(book, Question::Count);
+    reply.counted
 }
 
 // One entry by its number.
@@ -111,7 +95,6 @@ pub extern "C" fn fanzsoreb_count(book: &[u8]) -> Counted
 pub extern "C" fn fanzsoreb_entry(book: &[u8], number: u32) -> EntryRead
     ensures { λ r. ⌜ r ≡ onWords (now (book .entry)) (λ ws. readAnswer ws number) (noRead notABook) ⌝ }
 {
-    let mut words = [0u32; BOOK_WORDS];
-    let n = word_bytes::decode(book, &mut words);
-    book::entry(&words[..n], number)
+    let reply = reads::ask(book, Question::Entry(number));
+    reply.entry
 }

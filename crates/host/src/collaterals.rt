@@ -4,17 +4,8 @@ ghost use Rattle.rules.specs.Refusals.{notABook};
 ghost use Rattle.rules.specs.Collateral.{collateralAnswer, refusedCollateral};
 ghost use Rattle.word_bytes.specs.Bytes.{onWords};
 ghost use Rattle.collateral_case.specs.Cases.{caseOf};
-use rules::Case;
+use byte_calls::collaterals;
 use rules::Collateral;
-use rules::layout::BOOK_WORDS;
-
-fn collateral_on(book: &[u8], case: Case) -> Collateral
-    ensures { λ r. ⌜ r ≡ onWords (now (book .entry)) (λ ws. collateralAnswer ws case) (refusedCollateral notABook) ⌝ }
-{
-    let mut words = [0u32; BOOK_WORDS];
-    let n = word_bytes::decode(book, &mut words);
-    collateral::collateral(&words[..n], case)
-}
 
 // Each item of collateral and the total of a case.
 #[no_mangle]
@@ -65,5 +56,5 @@ pub extern "C" fn fanzsoreb_collateral(
         score,
         best,
     );
-    collateral_on(book, case)
+    collaterals::secure(book, case)
 }

@@ -4,9 +4,11 @@ ghost use Rattle.rules.specs.Refusals.{notABook};
 ghost use Rattle.rules.specs.Calls.{wordsAfter, controlAnswer, fileAnswer};
 ghost use Rattle.rules.specs.Calls as calls;
 ghost use Rattle.word_bytes.specs.Bytes.{onWords, withWords};
+use byte_calls::changes;
+use byte_calls::changes::Request;
+use byte_calls::files;
 use rules::Controlled;
 use rules::FileRead;
-use rules::layout::BOOK_WORDS;
 
 // Posts the lines of a file: all of them or none.
 #[no_mangle]
@@ -14,11 +16,7 @@ pub extern "C" fn fanzsoreb_read_file(book: &mut [u8], file: &[u8]) -> FileRead
     ensures answer { λ r. ⌜ r ≡ onWords (now (book .entry)) (λ ws. fileAnswer ws (now (file .entry))) (record { answer = notABook; posted = 0 }) ⌝ }
     ensures bytes { λ r. ⌜ now (book .exit) ≡ withWords (now (book .entry)) (λ ws. wordsAfter ws (calls.file (now (file .entry)))) ⌝ }
 {
-    let mut words = [0u32; BOOK_WORDS];
-    let n = word_bytes::decode(book, &mut words);
-    let read = dayfile::read_file(&mut words[..n], file);
-    word_bytes::write_back(read.answer, &words[..n], book);
-    read
+    files::read(book, file)
 }
 
 // Cancels the bilateral sales of detected parties and closes the day.
@@ -27,9 +25,11 @@ pub extern "C" fn fanzsoreb_control(book: &mut [u8], day: u32) -> Controlled
     ensures answer { λ r. ⌜ r ≡ onWords (now (book .entry)) (λ ws. controlAnswer ws day) (record { answer = notABook; first = 0; second = 0; cancelled = 0 }) ⌝ }
     ensures bytes { λ r. ⌜ now (book .exit) ≡ withWords (now (book .entry)) (λ ws. wordsAfter ws (calls.control day)) ⌝ }
 {
-    let mut words = [0u32; BOOK_WORDS];
-    let n = word_bytes::decode(book, &mut words);
-    let controlled = control::control(&mut words[..n], day);
-    word_bytes::write_back(controlled.answer, &words[..n], book);
-    controlled
+    let done = changes::change(book, Request::Control(day));
+    Controlled {
+        answer: done.answer,
+        first: done.first,
+        second: done.second,
+        cancelled: done.cancelled,
+    }
 }

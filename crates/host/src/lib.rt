@@ -3,5 +3,6 @@ pub mod books;
 pub mod collaterals;
 pub mod days;
 pub mod figures;
+pub mod in_words;
 pub mod months;
 pub mod positions;

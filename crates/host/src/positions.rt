@@ -4,18 +4,18 @@ ghost use lib.IntN.{pos};
 ghost use Rattle.rules.specs.Refusals.{notABook};
 ghost use Rattle.rules.specs.Balance.{tallyAnswer, balanceAnswer, isDetected, dayAhead, delivery, noTally};
 ghost use Rattle.word_bytes.specs.Bytes.{onWords, yesNo};
+use byte_calls::reads;
+use byte_calls::reads::Question;
 use rules::BalanceAnswer;
 use rules::TallyAnswer;
-use rules::layout::BOOK_WORDS;
 
 // The seventeen sums of a party's day and B.
 #[no_mangle]
 pub extern "C" fn fanzsoreb_tally(book: &[u8], party: u32, day: u32) -> TallyAnswer
     ensures { λ r. ⌜ r ≡ onWords (now (book .entry)) (λ ws. tallyAnswer ws party day) (record { answer = notABook; tally = noTally; bought = 0 }) ⌝ }
 {
-    let mut words = [0u32; BOOK_WORDS];
-    let n = word_bytes::decode(book, &mut words);
-    position::tally(&words[..n], party, day)
+    let reply = reads::ask(book, Question::Tally(party, day));
+    reply.tallied
 }
 
 // The day-ahead balance, in hundredths of a kWh (document 004, Article 7).
@@ -23,9 +23,8 @@ pub extern "C" fn fanzsoreb_tally(book: &[u8], party: u32, day: u32) -> TallyAns
 pub extern "C" fn fanzsoreb_day_ahead(book: &[u8], party: u32, day: u32) -> BalanceAnswer
     ensures { λ r. ⌜ r ≡ onWords (now (book .entry)) (λ ws. balanceAnswer dayAhead ws party day) (record { answer = notABook; balance = pos 0 }) ⌝ }
 {
-    let mut words = [0u32; BOOK_WORDS];
-    let n = word_bytes::decode(book, &mut words);
-    position::day_ahead(&words[..n], party, day)
+    let reply = reads::ask(book, Question::DayAhead(party, day));
+    reply.balance
 }
 
 // The delivery balance, in hundredths of a kWh (document 004, Article 5).
@@ -33,9 +32,8 @@ pub extern "C" fn fanzsoreb_day_ahead(book: &[u8], party: u32, day: u32) -> Bala
 pub extern "C" fn fanzsoreb_delivery(book: &[u8], party: u32, day: u32) -> BalanceAnswer
     ensures { λ r. ⌜ r ≡ onWords (now (book .entry)) (λ ws. balanceAnswer delivery ws party day) (record { answer = notABook; balance = pos 0 }) ⌝ }
 {
-    let mut words = [0u32; BOOK_WORDS];
-    let n = word_bytes::decode(book, &mut words);
-    position::delivery(&words[..n], party, day)
+    let reply = reads::ask(book, Question::Delivery(party, day));
+    reply.balance
 }
 
 // 1 if a balance is detected, else 0.

@@ -3,7 +3,7 @@ use mathlib.Core.Path.{_≡_, refl, sym, ap, _∙_}
 use mathlib.Core.Logic.{inl, inr, _≢_}
 use mathlib.Core.Bool.{Bool, true, false, not, _&&_}
 use mathlib.Core.List.{List, [], _∷_, _++_, map}
-use Prim.Native.Nat.{ℕ, zero, suc, _+_, _*_, _≤_, _<_}
+use Prim.Native.Nat.{ℕ, zero, suc, _+_, _*_, _≤_, _<_, _/_, min}
 use native.Mathlib.Omega.{arith}
 use lib.Dec.{leb, ltb}
 use lib.ListN.{length, getD, take, drop, set, length-take, length-set, take-append-drop}
@@ -13,16 +13,16 @@ use Rattle.numbers.specs.Causes.{unless, firstOf}
 use Rattle.numbers.proofs.TestLaws.{bool-cases}
 use Rattle.numbers.proofs.CauseLaws.{done-else, done-zero}
 use Rattle.rules.specs.Entry.{Key, Record, recordOf, key, noRecord, withStatus, fault, isMark, isStanding, standing, withdrawn, dayOk}
-use Rattle.rules.specs.Words.{word, frameOf, isBook, entries, countOf, coefficientOf, toleranceOf, roomIn, laid, bookWords}
+use Rattle.rules.specs.Words.{word, valueOf, frameOf, isBook, entries, countOf, coefficientOf, toleranceOf, roomIn, laid, bookWords, usedWith}
 use Rattle.rules.specs.Book.{openCause, openWords, isClosed, shutTo, entryAt, postRefusal, standsAt, withdrawRefusal, withdrawnAt}
 use Rattle.rules.specs.Stores.{posted, restatused}
 use Rattle.rules.specs.Control.{controlRefusal}
-use Rattle.rules.specs.DayFile.{isFile, items, itemCause, linesOf, fileRefusal}
+use Rattle.rules.specs.DayFile.{Item, isFile, wordsOf, linesIn, partyIn, headItem, itemsFrom, items, itemCause, linesOf, fileRefusal}
 use Rattle.rules.specs.Machine.{leavesOf, figuresOf}
 use Rattle.rules.specs.Calls.{Change, post, withdraw, control, file, Figures, noFigures, refusal, figuresOn, changed, onRecords, bookMachine, causeOf, figuresAt, wordsAfter}
 use Rattle.rules.proofs.WordLaws.{length-read, book-facts}
 use Rattle.rules.proofs.BookLaws.{open-limits, Stays, entry-at, posted-book, restatused-book}
-use Rattle.rules.proofs.LiftLaws.{SameView, room-alike, cut-long, cut-view, Passes, passes, SameFor, equal-room, with-room, same-cause, same-figures, refused-leaves, done-leaves, lifted-stays, cut-leaves}
+use Rattle.rules.proofs.LiftLaws.{SameView, room-alike, cut-long, cut-view, Passes, passes, SameFor, with-room, same-cause, same-figures, refused-leaves, done-leaves, lifted-stays, cut-leaves}
 use Rattle.rules.proofs.ChangeLaws.{post-clear, withdraw-clear, control-clear, file-clear, changes-keep, adds, changes-roomy}
 
 pub entries-count : (ws : List ℕ) → length (entries ws) ≡ countOf ws
@@ -71,37 +71,60 @@ module _ {ws vs : List ℕ} {c : Change} (s : SameFor onRecords c ws vs) where
   unfolding figuresAt
   view-figures = same-figures onRecords s noFigures
 
--- words cut past a full book's are seen alike by every call
-module _ (m : ℕ) (full : bookWords ≤ m) (ws : List ℕ) where
-  pub full-view : SameView (take m ws) ws
-  full-view = cut-view m (omega arith) ws (λ l. omega arith)
+-- words cut past the entries and k places more, or past a full book's, are seen alike by every call that adds no more than k entries
+room-for : (a k m b : ℕ) → min bookWords (3 + 5 * k) ≤ m → a ≤ k → a ≤ roomIn b → a ≤ roomIn m
+room-for a k m b h l g = omega arith
 
-  pub full-same : (c : Change) → SameFor onRecords c (take m ws) ws
-  full-same c = equal-room onRecords full-view (rw (length-take m ws) (omega arith)) c
+module _ (k m : ℕ) (ws : List ℕ) (cut : usedWith k ws ≤ m) where
+  pub used-view : SameView (take m ws) ws
+  used-view = cut-view m (omega arith) ws (room-for (countOf ws) (countOf ws + k) m (length ws) cut (omega arith))
 
--- and so are words cut at any length past the entries and what the call adds
-room-for : (k m b : ℕ) → 3 + 5 * k ≤ m → k ≤ roomIn b → k ≤ roomIn m
-room-for k m b h g = omega arith
+  pub used-same : (c : Change) → adds c ≤ k → SameFor onRecords c (take m ws) ws
+  used-same c l =
+      let a = countOf ws + adds c in
+      with-room onRecords changes-roomy used-view c
+      (rw (length-take m ws) (room-alike a m (length ws) (room-for a (countOf ws + k) m (length ws) cut (omega arith))))
 
-pub room-same : (m : ℕ) (ws : List ℕ) (c : Change) → 3 + 5 * (countOf ws + adds c) ≤ m → SameFor onRecords c (take m ws) ws
-room-same m ws c h =
-    let n = length ws in
-    let k = countOf ws + adds c in
-    with-room onRecords changes-roomy (cut-view m (omega arith) ws (room-for (countOf ws) m n (omega arith))) c
-    (rw (length-take m ws) (room-alike k m n (room-for k m n h)))
+-- a line of a file is three words
+head-lines : (l p d : ℕ) (is : List Item) (n : ℕ) → 3 * length (linesOf is) ≤ n → 3 * length (linesOf (headItem l p d is)) ≤ suc (suc n)
+unfolding linesOf
+head-lines zero p d is n h = omega arith
+head-lines (suc l) p d is n h = omega arith
+
+lines-long : (n p d : ℕ) (ws : List ℕ) → 3 * length (linesOf (itemsFrom n p d ws)) ≤ length ws
+unfolding itemsFrom linesOf
+lines-long zero p d [] = omega arith
+lines-long zero p d (w ∷ []) = omega arith
+lines-long zero p d (w ∷ x ∷ ws) = head-lines (linesIn w) (partyIn w) (valueOf x) (itemsFrom (linesIn w) (partyIn w) (valueOf x) ws) _ (lines-long (linesIn w) (partyIn w) (valueOf x) ws)
+lines-long (suc n) p d [] = omega arith
+lines-long (suc n) p d (w ∷ []) = omega arith
+lines-long (suc n) p d (w ∷ x ∷ []) = omega arith
+lines-long (suc n) p d (w ∷ x ∷ y ∷ ws) = omega (arith, lines-long n p d ws)
+
+words-long : (bs : List ℕ) → 4 * length (wordsOf bs) ≤ length bs
+unfolding wordsOf
+words-long [] = omega arith
+words-long (a ∷ []) = omega arith
+words-long (a ∷ b ∷ []) = omega arith
+words-long (a ∷ b ∷ c ∷ []) = omega arith
+words-long (a ∷ b ∷ c ∷ d ∷ bs) = omega (arith, words-long bs)
+
+pub file-adds : (bs : List ℕ) → adds (file bs) ≤ length bs / 12
+unfolding adds items
+file-adds bs = omega (arith, lines-long 0 0 0 (wordsOf bs), words-long bs)
 
 -- a call on cut words leaves the same, and the words past the cut as they were
 pub cut-words : (m : ℕ) (ws : List ℕ) (c : Change) → SameFor onRecords c (take m ws) ws → wordsAfter ws c ≡ wordsAfter (take m ws) c ++ drop m ws
 unfolding wordsAfter
 cut-words m ws c s = cut-leaves onRecords changes-keep m ws c s
 
--- opening too sees no word past a full book's
-pub cut-open : (m : ℕ) → bookWords ≤ m → (ws : List ℕ) (R TM : ℕ) → openWords ws R TM ≡ openWords (take m ws) R TM ++ drop m ws
+-- opening sees three words and their number
+pub cut-open : (m : ℕ) → 3 ≤ m → (ws : List ℕ) (R TM : ℕ) → openWords ws R TM ≡ openWords (take m ws) R TM ++ drop m ws
 unfolding openWords openCause
-cut-open m full ws R TM = go (openCause (length ws) R TM) refl
+cut-open m three ws R TM = go (openCause (length ws) R TM) refl
   where
     same : openCause (length (take m ws)) R TM ≡ openCause (length ws) R TM
-    same = rw (cut-long m (omega arith) ws)
+    same = rw (cut-long m three ws)
 
     go : (k : ℕ) → openCause (length ws) R TM ≡ k → openWords ws R TM ≡ openWords (take m ws) R TM ++ drop m ws
     go zero e =

@@ -161,10 +161,6 @@ module _ {C F : Type 0} (on : Frame → Machine (List Record) C F) where
   framed-as : {ws vs : List ℕ} → SameView ws vs → isBook vs ≡ true → frameOf ws ≡ framed (coefficientOf vs) (toleranceOf vs) (roomIn (length ws))
   framed-as s b = rw (s .coefficient b, s .tolerance b)
 
-  pub equal-room : {ws vs : List ℕ} → SameView ws vs → roomIn (length ws) ≡ roomIn (length vs) → (c : C) → SameFor c ws vs
-  equal-room {ws} {vs} s e c =
-      record { view = s; same = λ b. same-frame (framed-as s b ∙ ap (framed (coefficientOf vs) (toleranceOf vs)) e) (entries vs) c }
-
   pub with-room : {adds : C → ℕ} → Roomy on adds → {ws vs : List ℕ} → SameView ws vs → (c : C) → leb (countOf vs + adds c) (roomIn (length ws)) ≡ leb (countOf vs + adds c) (roomIn (length vs)) → SameFor c ws vs
   with-room {adds} r {ws} {vs} s c h = record { view = s; same = at }
     where

@@ -102,6 +102,10 @@ mostTolerance = 200000000
 abbrev pub roomIn : ℕ → ℕ
 roomIn lent = min mostEntries ((lent - 3) / 5)
 
+-- the words of a book's entries and of k places more, a full book's at most
+abbrev pub usedWith : ℕ → List ℕ → ℕ
+usedWith k ws = min bookWords (3 + 5 * (countOf ws + k))
+
 unfoldable pub isBook : List ℕ → Bool
 isBook ws =
     every

@@ -5,7 +5,7 @@ use mathlib.Core.List.{List, [], _∷_, _++_}
 use Prim.Native.Nat.{ℕ, _+_, _*_, _/_, _%_, _≤_, min}
 use lib.Dec.{eqb, leb}
 use lib.ListN.{length, getD, take, drop}
-use Rattle.rules.specs.Words.{bookWords}
+use Rattle.rules.specs.Words.{usedWith}
 use Rattle.numbers.specs.Tests.{every}
 use Rattle.rules.specs.Month.{mostHours}
 use Rattle.rules.specs.DayFile.{wordsOf}
@@ -20,22 +20,22 @@ wordAt bs at =
 unfoldable pub overBytes : List ℕ → List ℕ → List ℕ
 overBytes ws bs = bytesOf ws ++ drop (4 * length ws) bs
 
--- no call uses words after those of a full book (01, 'The words')
-unfoldable pub mostWords : ℕ
-mostWords = bookWords
+-- the first m words of a book's bytes: none where the bytes make no whole words
+unfoldable pub wordsIn : ℕ → List ℕ → List ℕ
+wordsIn m bs = cond (isWhole bs) (take m (wordsOf bs)) []
 
--- the words that are read: none where the bytes make no whole words, and no more than a full book's
-unfoldable pub wordsIn : List ℕ → List ℕ
-wordsIn bs = cond (isWhole bs) (take mostWords (wordsOf bs)) []
+unfoldable pub countIn : ℕ → List ℕ → ℕ
+countIn m bs = cond (isWhole bs) (min m (length bs / 4)) 0
 
-unfoldable pub countIn : List ℕ → ℕ
-countIn bs = cond (isWhole bs) (min mostWords (length bs / 4)) 0
+-- how many words a call needs that adds k entries at most
+abbrev pub neededFor : ℕ → List ℕ → ℕ
+neededFor k bs = countIn (usedWith k (wordsOf bs)) bs
 
--- the first n of an array's words are the book's
-pub record Decoded (bs ws : List ℕ) (n : ℕ) : Type 0 where
-  pub most : n ≤ bookWords
+-- the first n of some words are the book's first m
+pub record Decoded (m : ℕ) (bs ws : List ℕ) (n : ℕ) : Type 0 where
+  pub inside : n ≤ length ws
   pub lent : 4 * n ≤ length bs
-  pub read : take n ws ≡ wordsIn bs
+  pub read : take n ws ≡ wordsIn m bs
 
 -- the tests of the lengths, in bytes
 unfoldable pub lengthsOk : ℕ → ℕ → ℕ → ℕ → Bool

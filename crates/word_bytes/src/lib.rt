@@ -1,14 +1,18 @@
 // Internal: words out of bytes, little-endian, and back, for the C calls and the day file. A caller meets each `requires`.
 ghost use mathlib.Core.Path.{_≡_};
-ghost use Prim.Native.Nat.{_+_, _*_, _≤_};
+ghost use Prim.Native.Nat.{_+_, _*_, _<_, _≤_, min};
 ghost use mathlib.Core.List.{[], _∷_, _++_};
 ghost use lib.ListN.{length, take, drop};
-ghost use Rattle.rules.specs.Words.{bookWords};
+ghost use Rattle.rules.specs.Words.{values, countOf, bookWords, usedWith};
 ghost use Rattle.numbers.specs.Causes.{ifDone};
 ghost use Rattle.rules.specs.DayFile.{wordsOf};
 ghost use Rattle.word_bytes.specs.Bytes.{bytesOf, isWhole};
-ghost use Rattle.word_bytes.specs.Coding.{wordAt, overBytes, countIn, Decoded};
+ghost use Rattle.word_bytes.specs.Coding.{wordAt, overBytes, countIn, neededFor, Decoded};
+use rules::bounds::MOST_ENTRIES;
 use rules::layout::BOOK_WORDS;
+use rules::layout::ENTRY_WORDS;
+use rules::layout::HEAD_WORDS;
+use rules::layout::KIND;
 
 fn word_of(a: u8, b: u8, c: u8, d: u8) -> u32
     ensures { λ r. ⌜ r ≡ a + b * 256 + c * 65536 + d * 16777216 ⌝ }
@@ -66,27 +70,103 @@ pub fn is_whole(bytes: &[u8]) -> bool
     bytes.len() % 4 == 0
 }
 
-// How many words a book has: none where its bytes make no whole words, and no more than a full book's.
-fn count_words(bytes: &[u8]) -> usize
-    ensures { λ r. ⌜ r ≡ countIn (now (bytes .entry)) ⌝ }
+fn lesser(a: usize, b: usize) -> usize
+    ensures { λ r. ⌜ r ≡ min a b ⌝ }
+{
+    if a < b { a } else { b }
+}
+
+// How many words the entries of a book use with some places more, a full book's at most.
+fn used_with(count: usize, added: usize) -> usize
+    requires { ⌜ count < values ⌝ }
+    ensures { λ r. ⌜ r ≡ min bookWords (3 + 5 * (count + added)) ⌝ }
+{
+    if MOST_ENTRIES < added {
+        return BOOK_WORDS;
+    }
+    lesser(BOOK_WORDS, HEAD_WORDS + ENTRY_WORDS * (count + added))
+}
+
+// The number of entries that a book's first word gives.
+fn count_at(bytes: &[u8]) -> usize
+    requires { ⌜ 4 ≤ length (now bytes) ⌝ }
+    ensures { λ r. ⌜ r ≡ countOf (wordsOf (now (bytes .entry))) ⌝ }
+{
+    (word_at(bytes, 0) % KIND) as usize
+}
+
+// The same by a book's bytes; those of less than a word have no entries.
+fn used(bytes: &[u8], added: usize) -> usize
+    ensures { λ r. ⌜ r ≡ usedWith added (wordsOf (now (bytes .entry))) ⌝ }
+{
+    if bytes.len() < 4 {
+        return used_with(0, added);
+    }
+    used_with(count_at(bytes), added)
+}
+
+// How many of a book's first words are read: none where its bytes make no whole words.
+fn count_in(bytes: &[u8], most: usize) -> usize
+    ensures { λ r. ⌜ r ≡ countIn most (now (bytes .entry)) ⌝ }
 {
     if !is_whole(bytes) {
         return 0;
     }
-    if BOOK_WORDS < bytes.len() / 4 {
-        return BOOK_WORDS;
-    }
-    bytes.len() / 4
+    lesser(most, bytes.len() / 4)
 }
 
-// The words of a book into an array, and their number.
-pub fn decode(bytes: &[u8], words: &mut [u32]) -> usize
-    requires { ⌜ length (now words) ≡ bookWords ⌝ }
-    ensures { λ r. ⌜ Decoded (now (bytes .entry)) (now (words .exit)) r ⌝ }
+// How many words of a book's bytes a call needs that adds some entries at most.
+pub fn needed(bytes: &[u8], added: usize) -> usize
+    ensures { λ r. ⌜ r ≡ neededFor added (now (bytes .entry)) ⌝ }
 {
-    let n = count_words(bytes);
+    count_in(bytes, used(bytes, added))
+}
+
+// A book's first words, read into the first of lent words; their number.
+fn decode_first(bytes: &[u8], most: usize, words: &mut [u32]) -> usize
+    requires { ⌜ countIn most (now bytes) ≤ length (now words) ⌝ }
+    ensures { λ r. ⌜ Decoded most (now (bytes .entry)) (now (words .exit)) r ⌝ }
+{
+    let n = count_in(bytes, most);
     read_words(bytes, &mut words[..n]);
     n
+}
+
+// Those that a call needs, and the three before the entries, which an opening writes.
+pub fn decode(bytes: &[u8], added: usize, words: &mut [u32]) -> usize
+    requires { ⌜ neededFor added (now bytes) ≤ length (now words) ⌝ }
+    ensures { λ r. ⌜ Decoded (usedWith added (wordsOf (now (bytes .entry)))) (now (bytes .entry)) (now (words .exit)) r ⌝ }
+{
+    decode_first(bytes, used(bytes, added), words)
+}
+
+pub fn decode_head(bytes: &[u8], words: &mut [u32]) -> usize
+    requires { ⌜ 3 ≤ length (now words) ⌝ }
+    ensures { λ r. ⌜ Decoded 3 (now (bytes .entry)) (now (words .exit)) r ⌝ }
+{
+    decode_first(bytes, HEAD_WORDS, words)
+}
+
+// Where a book's entries end, by its bytes, or where the words do.
+fn end_of(words: usize, bytes: &[u8]) -> usize
+    requires { ⌜ (1 ≤ words) × (4 ≤ length (now bytes)) ⌝ }
+    ensures { λ r. ⌜ (1 ≤ r) × (r ≤ words) ⌝ }
+{
+    lesser(used_with(count_at(bytes), 0), words)
+}
+
+// Words over the first bytes: those beyond the book's entries first, then those before, last and by itself the word with
+// the count. So a host that is killed finds the book as it was or as it is to be.
+fn store(words: &[u32], bytes: &mut [u8])
+    requires { ⌜ 1 ≤ length (now words) ⌝ }
+    requires { ⌜ 4 * length (now words) ≤ length (now bytes) ⌝ }
+    ensures { λ _. ⌜ now (bytes .exit) ≡ overBytes (now (words .entry)) (now (bytes .entry)) ⌝ }
+{
+    let end = end_of(words.len(), bytes);
+    let past = 4 * end;
+    encode(&words[end..], &mut bytes[past..]);
+    encode(&words[1..end], &mut bytes[4..]);
+    put_word(bytes, 0, words[0]);
 }
 
 // The words that a done call left go back to the book's bytes; a refused one writes nothing.
@@ -94,7 +174,10 @@ pub fn write_back(answer: u32, words: &[u32], bytes: &mut [u8])
     requires { ⌜ 4 * length (now words) ≤ length (now bytes) ⌝ }
     ensures { λ _. ⌜ now (bytes .exit) ≡ ifDone answer (overBytes (now (words .entry)) (now (bytes .entry))) (now (bytes .entry)) ⌝ }
 {
-    if answer == 0 {
-        encode(words, bytes);
+    if answer != 0 {
+        return;
+    }
+    if words.len() != 0 {
+        store(words, bytes);
     }
 }

@@ -1,11 +1,11 @@
--- `host::books::fanzsoreb_open_default` meets its contract. Assumes nothing.
+-- `byte_calls::openings::open` meets its contract. Assumes nothing.
 use mathlib.Core.Path.{sym, _∙_}
 use borrow.Author.Needs.{needs}
 use borrow.Author.Tests.{not-true, not-false}
 use Rattle.word_bytes.proofs.CodingLaws.{parts}
 use Rattle.word_bytes.proofs.CallLaws.{open-odd, open-written}
-use Rattle.host.proofs.books.fanzsoreb_open_default.Statement.{statement}
-use Rattle.host.proofs.books.fanzsoreb_open_default.Tie as tie
+use Rattle.byte_calls.proofs.openings.open.Statement.{statement}
+use Rattle.byte_calls.proofs.openings.open.Tie as tie
 
 is-whole-requires : tie.Need-is-whole-requires
 is-whole-requires c κs = search needs
@@ -16,20 +16,20 @@ same-length c = search needs
 returns : tie.Need-returns
 returns c = open-odd _ _ _ (sym (c .before .is-whole .ensures) ∙ not-true _ (c .if1 .taken))
 
-slice-aggregate-decode : tie.Need-slice-aggregate-decode
-slice-aggregate-decode c = search needs
+slice-aggregate-decode-head : tie.Need-slice-aggregate-decode-head
+slice-aggregate-decode-head c = search needs
 
-decode-requires : tie.Need-decode-requires
-decode-requires c κs = search needs
+decode-head-requires : tie.Need-decode-head-requires
+decode-head-requires c κs = search needs
 
 array-borrow-prefix-words : tie.Need-array-borrow-prefix-words
-array-borrow-prefix-words c = search needs
+array-borrow-prefix-words c = search parts
 
-slice-aggregate-open-default : tie.Need-slice-aggregate-open-default
-slice-aggregate-open-default c = search parts
+slice-aggregate-open : tie.Need-slice-aggregate-open
+slice-aggregate-open c = search parts
 
-open-default-requires : tie.Need-open-default-requires
-open-default-requires c κs = search needs
+open-requires : tie.Need-open-requires
+open-requires c κs = search needs
 
 array-share-prefix-words : tie.Need-array-share-prefix-words
 array-share-prefix-words c = search parts
@@ -49,25 +49,25 @@ returns-2 c =
     let opened = written .before .before .before .before in
     let decoded = opened .before .before .before in
     let whole = decoded .before .before .before in
-    let d = decoded .decode in
-    let o = opened .open-default in
-    open-written (λ i. whole .before .before .before .slice-known .given i .fits) (d .ensures) (d .kept .1 .0) (o .kept .0) _ _
+    let d = decoded .decode-head in
+    let o = opened .«open» in
+    open-written (d .ensures) _ _ (λ i. whole .before .before .before .slice-known .given i .fits) (o .kept .0)
     (sym (whole .before .is-whole .ensures) ∙ not-false _ (whole .if1 .left))
     (o .ensures)
     (written .write-back .ensures)
 
-pub fanzsoreb-open-default-spec : {M : Type 1} → statement M
-fanzsoreb-open-default-spec =
+pub open-spec : {M : Type 1} → statement M
+open-spec =
     tie.close
     (tie.spec
     is-whole-requires
     same-length
     returns
-    slice-aggregate-decode
-    decode-requires
+    slice-aggregate-decode-head
+    decode-head-requires
     array-borrow-prefix-words
-    slice-aggregate-open-default
-    open-default-requires
+    slice-aggregate-open
+    open-requires
     array-share-prefix-words
     slice-aggregate-write-back
     write-back-requires

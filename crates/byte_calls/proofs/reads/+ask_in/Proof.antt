@@ -1,0 +1,79 @@
+-- `byte_calls::reads::ask_in` meets its contract. It calls itself once, with words that suffice. Assumes nothing.
+use borrow.Author.Needs.{needs}
+use Prim.Native.Nat.{ℕ, _<_, _-_}
+use lib.ListN.{length}
+use Rattle.word_bytes.specs.Coding.{neededFor}
+use Rattle.word_bytes.proofs.CodingLaws.{needed-most}
+use borrow.Fn.Kinds.{In}
+use borrow.Fn.PlainCycle.{Measures, is, falls, and}
+use Rattle.byte_calls.proofs.reads.ask_in.Reads as ask-in
+use Rattle.byte_calls.proofs.reads.ask_in.Kinds as ask-in-kinds
+use Rattle.byte_calls.proofs.reads.+ask_in.Lts-ask_in as ask-in-lts
+use Rattle.byte_calls.proofs.reads.ask_large.Reads as ask-large-reads
+use Rattle.byte_calls.proofs.reads.ask_on.Reads as ask-on-reads
+use Rattle.byte_calls.proofs.reads.ask_wide.Reads as ask-wide-reads
+use Rattle.word_bytes.proofs.needed.Reads as needed-reads
+use Rattle.byte_calls.proofs.reads.+ask_in.{statement}
+use Rattle.byte_calls.proofs.reads.+ask_in.Tie.{close}
+
+abbrev μ-ask-in : Measures 2 ask-in-kinds.ps ℕ
+μ-ask-in κs a = neededFor 0 (a .1 .0 .now) - length (a .0 .now)
+
+abbrev ask-in-at : ℕ → In 2 ask-in-kinds.ps
+ask-in-at t = and 2 ask-in-kinds.ps (is 2 ask-in-kinds.ps μ-ask-in t) ask-in.Pre
+
+abbrev ask-in-below : ℕ → In 2 ask-in-kinds.ps
+ask-in-below t = and 2 ask-in-kinds.ps (falls 2 ask-in-kinds.ps _<_ μ-ask-in t) ask-in.Pre
+
+-- what is known of the functions that it calls, itself below t among them
+abbrev known : ℕ → ask-in-lts.Claims
+known t = (needed-reads.Asked, needed-reads.Learnt, ask-on-reads.Asked, ask-on-reads.Learnt, ask-in-below t, ask-in.Post, ask-wide-reads.Asked, ask-wide-reads.Learnt, ask-large-reads.Asked, ask-large-reads.Learnt)
+
+ask-in-needed-requires : (t : ℕ) → ask-in-lts.Need-needed-requires (known t) (ask-in-at t) ask-in.Post
+ask-in-needed-requires t c κs = search needs
+
+ask-in-ask-on-requires : (t : ℕ) → ask-in-lts.Need-ask-on-requires (known t) (ask-in-at t) ask-in.Post
+ask-in-ask-on-requires t c κs = search needs
+
+ask-in-same-length : (t : ℕ) → ask-in-lts.Need-same-length (known t) (ask-in-at t) ask-in.Post
+ask-in-same-length t c = search needs
+
+ask-in-returns : (t : ℕ) → ask-in-lts.Need-returns (known t) (ask-in-at t) ask-in.Post
+ask-in-returns t c = search needs
+
+ask-in-slice-aggregate-ask-in : (t : ℕ) → ask-in-lts.Need-slice-aggregate-ask-in (known t) (ask-in-at t) ask-in.Post
+ask-in-slice-aggregate-ask-in t c = search needs
+
+ask-in-ask-in-requires : (t : ℕ) → ask-in-lts.Need-ask-in-requires (known t) (ask-in-at t) ask-in.Post
+ask-in-ask-in-requires t c κs = search needs
+
+ask-in-returns-2 : (t : ℕ) → ask-in-lts.Need-returns-2 (known t) (ask-in-at t) ask-in.Post
+ask-in-returns-2 t c = search needs
+
+ask-in-ask-wide-requires : (t : ℕ) → ask-in-lts.Need-ask-wide-requires (known t) (ask-in-at t) ask-in.Post
+ask-in-ask-wide-requires t c κs = search needs
+
+ask-in-returns-3 : (t : ℕ) → ask-in-lts.Need-returns-3 (known t) (ask-in-at t) ask-in.Post
+ask-in-returns-3 t c = search needs
+
+ask-in-ask-large-requires : (t : ℕ) → ask-in-lts.Need-ask-large-requires (known t) (ask-in-at t) ask-in.Post
+ask-in-ask-large-requires t c κs = needed-most 0 _
+
+ask-in-returns-4 : (t : ℕ) → ask-in-lts.Need-returns-4 (known t) (ask-in-at t) ask-in.Post
+ask-in-returns-4 t c = search needs
+
+pub +ask-in-spec : {M : Type 1} → statement M
++ask-in-spec = close μ-ask-in λ t. ask-in-lts.spec (known t)
+    (ask-in-at t)
+    ask-in.Post
+    (ask-in-needed-requires t)
+    (ask-in-ask-on-requires t)
+    (ask-in-same-length t)
+    (ask-in-returns t)
+    (ask-in-slice-aggregate-ask-in t)
+    (ask-in-ask-in-requires t)
+    (ask-in-returns-2 t)
+    (ask-in-ask-wide-requires t)
+    (ask-in-returns-3 t)
+    (ask-in-ask-large-requires t)
+    (ask-in-returns-4 t)

@@ -1,0 +1,3 @@
+-- Calls on a book in lent bytes.
+pub mod Requests
+pub mod Questions

@@ -1,0 +1,32 @@
+// An opening of a book in lent bytes: three words are read and written.
+ghost use mathlib.Core.Path.{_≡_};
+ghost use lib.ListN.{length};
+ghost use Rattle.rules.specs.Refusals.{notABook};
+ghost use Rattle.rules.specs.Book.{openCause, openWords, openDefaultCause, openDefaultWords};
+ghost use Rattle.word_bytes.specs.Bytes.{onWords, withWords};
+use rules::bounds::DEFAULT_COEFFICIENT;
+use rules::bounds::DEFAULT_TOLERANCE;
+use rules::causes::NOT_A_BOOK;
+use rules::layout::HEAD_WORDS;
+
+pub fn open(book: &mut [u8], coefficient: u32, tolerance: u32) -> u32
+    ensures answer { λ r. ⌜ r ≡ onWords (now (book .entry)) (λ ws. openCause (length ws) coefficient tolerance) notABook ⌝ }
+    ensures bytes { λ r. ⌜ now (book .exit) ≡ withWords (now (book .entry)) (λ ws. openWords ws coefficient tolerance) ⌝ }
+{
+    if !word_bytes::is_whole(book) {
+        return NOT_A_BOOK;
+    }
+    let mut words = [0u32; HEAD_WORDS];
+    let n = word_bytes::decode_head(book, &mut words);
+    let opened = book::open(&mut words[..n], coefficient, tolerance);
+    word_bytes::write_back(opened, &words[..n], book);
+    opened
+}
+
+// With the figures of an opening that names none (02, T-12).
+pub fn open_default(book: &mut [u8]) -> u32
+    ensures answer { λ r. ⌜ r ≡ onWords (now (book .entry)) (λ ws. openDefaultCause (length ws)) notABook ⌝ }
+    ensures bytes { λ r. ⌜ now (book .exit) ≡ withWords (now (book .entry)) openDefaultWords ⌝ }
+{
+    open(book, DEFAULT_COEFFICIENT, DEFAULT_TOLERANCE)
+}
