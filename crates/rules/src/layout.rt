@@ -20,6 +20,9 @@ pub const COEFFICIENT_WORD: u32 = 0x70000000;
 
 pub const TOLERANCE_WORD: u32 = 0x80000000;
 
+// Two words as one number: the first, and this many times the second.
+pub const WORD_VALUES: u64 = 4294967296;
+
 // The words before the entries, those of an entry, and those of a full book.
 pub const HEAD_WORDS: usize = 3;
 
@@ -59,3 +62,6 @@ pub const STANDING: u32 = 0;
 pub const WITHDRAWN: u32 = 1;
 
 pub const CANCELLED: u32 = 2;
+
+// The kind 3 word of status 2 with type and counterparty 0.
+pub const CANCELLED_WORD: u32 = FIGURES_WORD + CANCELLED * STATUS;
