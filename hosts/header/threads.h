@@ -146,7 +146,7 @@ static void stacks(void)
     NEEDS(on_read_file, 100);
     NEEDS(on_open, 64);
     NEEDS(on_open_default, 64);
-    NEEDS(on_month, 200);
+    NEEDS(on_month, 10);
     three_days();
     answers = 0;
     NEEDS(on_control, 340);

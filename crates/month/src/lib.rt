@@ -1,7 +1,7 @@
 // The month step: a month's average price and a group's imbalance volume (01, 'Month step').
-mod ranges;
+pub mod ranges;
 mod sizes;
-mod sums;
+pub mod sums;
 
 ghost use mathlib.Core.Path.{_≡_};
 ghost use Rattle.rules.specs.Month.{tablesOf, monthAnswer};

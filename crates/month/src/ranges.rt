@@ -1,10 +1,8 @@
-// The lengths and ranges of month tables (01, 'Month step', 'Why a call comes back').
+// Internal: the lengths and ranges of month tables (01, 'Month step', 'Why a call comes back').
 ghost use mathlib.Core.Path.{_≡_};
-ghost use mathlib.Core.List.{[], _∷_};
-ghost use Prim.Native.Nat.{_*_};
-ghost use lib.Dec.{eqb, leb};
-ghost use Rattle.numbers.specs.Tests.{every, all};
-ghost use Rattle.rules.specs.Month.{mostHours, mostPrice, volumeOk, tablesOf, monthCause};
+ghost use Rattle.numbers.specs.Tests.{all};
+ghost use Rattle.rules.specs.Month.{volumeOk, tablesOf, monthCause};
+ghost use Rattle.month.specs.Ranges.{lengthsAgree, placesOk, priceOk};
 use crate::sizes;
 use rules::bounds::MOST_HOURS;
 use rules::bounds::MOST_IMBALANCE;
@@ -20,16 +18,15 @@ pub fn cause(prices: &[u32], imbalance: &[i32], rows: u32, dm: &[i32], group: u3
     if !lengths_agree(prices.len(), imbalance.len(), rows, dm.len()) {
         return BAD_LENGTH;
     }
-    let places = (1 <= rows) & (rows <= MOST_ROWS) & (group < rows);
-    if !(places & prices_ok(prices) & volumes_ok(imbalance) & volumes_ok(dm)) {
+    if !(places_ok(rows, group) & prices_ok(prices) & volumes_ok(imbalance) & volumes_ok(dm)) {
         return BAD_FIGURE;
     }
     0
 }
 
 // With at most 745 hours no number of rows makes the product wrap.
-fn lengths_agree(hours: usize, volumes: usize, rows: u32, dms: usize) -> bool
-    ensures { λ r. ⌜ r ≡ every (leb hours mostHours ∷ eqb volumes (rows * hours) ∷ eqb dms hours ∷ []) ⌝ }
+pub fn lengths_agree(hours: usize, volumes: usize, rows: u32, dms: usize) -> bool
+    ensures { λ r. ⌜ r ≡ lengthsAgree hours volumes rows dms ⌝ }
 {
     if hours > MOST_HOURS {
         return false;
@@ -37,8 +34,15 @@ fn lengths_agree(hours: usize, volumes: usize, rows: u32, dms: usize) -> bool
     (volumes == (rows as usize) * hours) & (dms == hours)
 }
 
-fn prices_ok(prices: &[u32]) -> bool
-    ensures { λ r. ⌜ r ≡ all (λ price. leb price mostPrice) (now (prices .entry)) ⌝ }
+// The number of groups, and the one asked.
+pub fn places_ok(rows: u32, group: u32) -> bool
+    ensures { λ r. ⌜ r ≡ placesOk rows group ⌝ }
+{
+    (1 <= rows) & (rows <= MOST_ROWS) & (group < rows)
+}
+
+pub fn prices_ok(prices: &[u32]) -> bool
+    ensures { λ r. ⌜ r ≡ all priceOk (now (prices .entry)) ⌝ }
 {
     let mut ok = true;
     let mut h = 0;
@@ -49,14 +53,21 @@ fn prices_ok(prices: &[u32]) -> bool
     ok
 }
 
-// Imbalance or DM: each within ±10,000,000. No branch in the loop, as legal tables are read to the end.
-fn volumes_ok(volumes: &[i32]) -> bool
+// An hour's imbalance or DM: within ±10,000,000.
+pub fn volume_ok(volume: i32) -> bool
+    ensures { λ r. ⌜ r ≡ volumeOk volume ⌝ }
+{
+    sizes::size(volume) as u64 <= MOST_IMBALANCE
+}
+
+// No branch in the loop, as legal tables are read to the end.
+pub fn volumes_ok(volumes: &[i32]) -> bool
     ensures { λ r. ⌜ r ≡ all volumeOk (now (volumes .entry)) ⌝ }
 {
     let mut ok = true;
     let mut i = 0;
     while i < volumes.len() {
-        ok = ok & (sizes::size(volumes[i]) as u64 <= MOST_IMBALANCE);
+        ok = ok & volume_ok(volumes[i]);
         i += 1;
     }
     ok

@@ -1,4 +1,4 @@
-// Internal: the sums over month tables that no cause refuses (01, 'Month step').
+// Internal: the sums over month tables that no cause refuses (01, 'Month step'). A caller meets each `requires`.
 ghost use mathlib.Core.Path.{_≡_};
 ghost use lib.IntN.{_-ℤ_};
 ghost use Rattle.numbers.specs.Rounding.{halfUp};
@@ -8,9 +8,9 @@ use crate::sizes;
 use rules::Month;
 
 // The two sums that AOSMF divides.
-struct Sums {
-    weighted: u64,
-    weights: u64,
+pub struct Sums {
+    pub weighted: u64,
+    pub weights: u64,
 }
 
 // AOSMF over all rows and AEDM of the group asked.
@@ -34,7 +34,7 @@ pub fn figures(prices: &[u32], imbalance: &[i32], rows: u32, dm: &[i32], group: 
 }
 
 // Σ|imbalance| × price and Σ|imbalance| of the row that starts at a place of the imbalance.
-fn row_sums(prices: &[u32], imbalance: &[i32], at: usize) -> Sums
+pub fn row_sums(prices: &[u32], imbalance: &[i32], at: usize) -> Sums
     requires { ⌜ PricedRow (now prices) (now imbalance) at ⌝ }
     ensures { λ r. ⌜ (r .weighted ≡ rowWeighted (now (prices .entry)) (now (imbalance .entry)) at) × (r .weights ≡ rowWeights (now (prices .entry)) (now (imbalance .entry)) at) ⌝ }
 {
@@ -51,14 +51,14 @@ fn row_sums(prices: &[u32], imbalance: &[i32], at: usize) -> Sums
 }
 
 // The weighted average, halves up; 0 where the weights are 0.
-fn average(weighted: u64, weights: u64) -> u64
+pub fn average(weighted: u64, weights: u64) -> u64
     ensures { λ r. ⌜ r ≡ halfUp weighted weights ⌝ }
 {
     numbers::half_up(weighted, weights)
 }
 
 // Σ(imbalance − DM) of the row that starts at a place of the imbalance.
-fn row_volume(imbalance: &[i32], at: usize, dm: &[i32]) -> i64
+pub fn row_volume(imbalance: &[i32], at: usize, dm: &[i32]) -> i64
     requires { ⌜ DmRow (now imbalance) at (now dm) ⌝ }
     ensures { λ r. ⌜ r ≡ rowVolume (now (imbalance .entry)) at (now (dm .entry)) ⌝ }
 {

@@ -2,7 +2,7 @@
 use mathlib.Core.Path.{_∙_, ap}
 use borrow.Author.Needs.{needs}
 use Rattle.rules.specs.Month.{monthAnswer}
-use Rattle.month_bytes.proofs.TableLaws.{tables-read}
+use Rattle.month_bytes.proofs.TableLaws.{dm-lent, tables-read, placed-read, row-read}
 use Rattle.month_bytes.proofs.step.Statement.{statement}
 use Rattle.month_bytes.proofs.step.Tie as tie
 
@@ -10,13 +10,10 @@ read-words-requires : tie.Need-read-words-requires
 read-words-requires c κs = search needs
 
 read-figures-requires : tie.Need-read-figures-requires
-read-figures-requires c κs = search needs
+read-figures-requires c κs = search dm-lent
 
-read-figures-requires-2 : tie.Need-read-figures-requires-2
-read-figures-requires-2 c κs = search needs
-
-month-step-requires : tie.Need-month-step-requires
-month-step-requires c κs = search needs
+answer-requires : tie.Need-answer-requires
+answer-requires c κs = (search placed-read, search row-read)
 
 same-length : tie.Need-same-length
 same-length c = search needs
@@ -28,7 +25,7 @@ same-length-3 : tie.Need-same-length-3
 same-length-3 c = search needs
 
 returns : tie.Need-returns
-returns c = c .month-step .ensures ∙ ap monthAnswer (search tables-read)
+returns c = c .before .answer .ensures ∙ ap monthAnswer (search tables-read)
 
 pub step-spec : {M : Type 1} → statement M
 step-spec =
@@ -36,8 +33,7 @@ step-spec =
     (tie.spec
     read-words-requires
     read-figures-requires
-    read-figures-requires-2
-    month-step-requires
+    answer-requires
     same-length
     same-length-2
     same-length-3

@@ -1,19 +1,15 @@
 -- `month::ranges::prices_ok` meets its contract. The loop's invariant: `ok` and the prices left decide. Assumes nothing.
 use mathlib.Core.Path.{_≡_, refl}
-use mathlib.Core.Bool.{Bool, _&&_}
-use Prim.Native.Nat.{ℕ, _-_, _≤_}
+use mathlib.Core.Bool.{_&&_}
+use Prim.Native.Nat.{_-_, _≤_}
 use native.Mathlib.Omega.{arith}
-use lib.Dec.{leb}
 use lib.ListN.{length, drop}
 use borrow.Author.Needs.{needs}
 use Rattle.numbers.specs.Tests.{all}
-use Rattle.rules.specs.Month.{mostPrice}
+use Rattle.month.specs.Ranges.{priceOk}
 use Rattle.month.proofs.ScanLaws.{all-more, all-end}
 use Rattle.month.proofs.ranges.prices_ok.Statement.{statement}
 use Rattle.month.proofs.ranges.prices_ok.Tie as tie
-
-abbrev priceOk : ℕ → Bool
-priceOk price = leb price mostPrice
 
 abbrev Inv-loop : tie.InvT-loop
 Inv-loop prices ok₀ h₀ ok h = (h ≤ length prices) × (all priceOk prices ≡ ok && all priceOk (drop h prices))

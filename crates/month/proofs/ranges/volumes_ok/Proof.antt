@@ -4,7 +4,7 @@ use mathlib.Core.Bool.{_&&_}
 use mathlib.Core.List.{List}
 use Prim.Native.Nat.{_-_, _≤_}
 use native.Mathlib.Omega.{arith}
-use lib.IntN.{ℤ, pos, natAbs}
+use lib.IntN.{ℤ, pos}
 use lib.ListN.{length, drop, getD}
 use borrow.Author.Needs.{needs}
 use Rattle.numbers.specs.Tests.{all}
@@ -23,17 +23,14 @@ abbrev μ-loop : tie.MeasureT-loop
 loop-holds : tie.Need-loop-holds Inv-loop μ-loop
 loop-holds c = (omega arith, refl)
 
-mul-size : tie.Need-mul-size Inv-loop μ-loop
-mul-size c = search needs
+mul-volume-ok : tie.Need-mul-volume-ok Inv-loop μ-loop
+mul-volume-ok c = search needs
 
-shared-slice-copy-out-size : tie.Need-shared-slice-copy-out-size Inv-loop μ-loop
-shared-slice-copy-out-size c = search needs
+shared-slice-copy-out-volume-ok : tie.Need-shared-slice-copy-out-volume-ok Inv-loop μ-loop
+shared-slice-copy-out-volume-ok c = search needs
 
-size-requires : tie.Need-size-requires Inv-loop μ-loop
-size-requires c κs = search needs
-
-cast-ok : tie.Need-cast-ok Inv-loop μ-loop
-cast-ok c = search needs
+volume-ok-requires : tie.Need-volume-ok-requires Inv-loop μ-loop
+volume-ok-requires c κs = search needs
 
 add-i : tie.Need-add-i Inv-loop μ-loop
 add-i c = search needs
@@ -45,9 +42,9 @@ loop-again : tie.Need-loop-again Inv-loop μ-loop
 loop-again c =
     let at = c .before .before .before .loop in
     let volumes : List ℤ = c .before .before .before .before .args .volumes .now in
-    let size : c .size .result ≡ natAbs (getD volumes (at .i) (pos 0)) =
-    c .size .ensures ∙ ap natAbs (exact32 (getD volumes (at .i) (pos 0)) (c .before .size-arg .given)) in
-    (search needs, rw size (all-more volumeOk volumes (at .ok) (at .i) (pos 0) (c .before .before .loop-test .taken) (at .inv .1)))
+    let found : c .volume-ok .result ≡ volumeOk (getD volumes (at .i) (pos 0)) =
+    c .volume-ok .ensures ∙ ap (λ z. volumeOk z) (exact32 (getD volumes (at .i) (pos 0)) (c .before .volume-ok-arg .given)) in
+    (search needs, rw found (all-more volumeOk volumes (at .ok) (at .i) (pos 0) (c .before .before .loop-test .taken) (at .inv .1)))
 
 returns : tie.Need-returns Inv-loop μ-loop
 returns c =
@@ -61,10 +58,9 @@ volumes-ok-spec =
     Inv-loop
     μ-loop
     loop-holds
-    mul-size
-    shared-slice-copy-out-size
-    size-requires
-    cast-ok
+    mul-volume-ok
+    shared-slice-copy-out-volume-ok
+    volume-ok-requires
     add-i
     loop-less
     loop-again

@@ -1,35 +1,34 @@
--- `month_bytes::figures::read_figures` meets its contract. The loop's invariant: the first i figures are those of the bytes. Assumes nothing.
-use mathlib.Core.Path.{_≡_, sym, _∙_, ap}
-use Prim.Native.Nat.{_≤_, _-_}
+-- `month_bytes::figures::read_figures` meets its contract. The loop's invariant: the first i figures are those from the place on. Assumes nothing.
+use mathlib.Core.Path.{_≡_, sym, _∙_}
+use mathlib.Core.List.{List}
+use Prim.Native.Nat.{ℕ, _-_, _≤_}
 use native.Mathlib.Omega.{arith}
 use borrow.Author.Needs.{needs}
 use lib.IntN.{pos}
-use lib.ListN.{length, take, length-set}
+use lib.ListN.{length, take, drop, length-set, length-drop}
+use lib.Seq.{getD-drop}
 use mir.Syntax.{w32}
 use mir.ValLaws.{toZ-ofZ}
-use Rattle.month_bytes.specs.Tables.{signedOf, figuresOf}
 use Rattle.word_bytes.proofs.BytesLaws.{fill-step, filled}
-use Rattle.month_bytes.proofs.TableLaws.{length-figures, figure-at}
+use Rattle.month_bytes.specs.Tables.{figuresOf}
+use Rattle.month_bytes.proofs.FigureLaws.{length-figures}
 use Rattle.month_bytes.proofs.figures.read_figures.Statement.{statement}
 use Rattle.month_bytes.proofs.figures.read_figures.Tie as tie
 
 abbrev Inv-loop : tie.InvT-loop
-Inv-loop bytes figures₀ i₀ figures i = (i ≤ length figures₀) × (length figures ≡ length figures₀) × (take i figures ≡ take i (figuresOf bytes))
+Inv-loop bytes at figures₀ i₀ figures i = (i ≤ length figures₀) × (length figures ≡ length figures₀) × (take i figures ≡ take i (drop at (figuresOf bytes)))
 
 abbrev μ-loop : tie.MeasureT-loop
-μ-loop bytes figures₀ i₀ figures i = length figures₀ - i
+μ-loop bytes at figures₀ i₀ figures i = length figures₀ - i
 
 loop-holds : tie.Need-loop-holds Inv-loop μ-loop
 loop-holds c = search needs
 
-mul-word-at : tie.Need-mul-word-at Inv-loop μ-loop
-mul-word-at c = search needs
+add-figure-at : tie.Need-add-figure-at Inv-loop μ-loop
+add-figure-at c = search needs
 
-word-at-requires : tie.Need-word-at-requires Inv-loop μ-loop
-word-at-requires c κs = search needs
-
-signed-requires : tie.Need-signed-requires Inv-loop μ-loop
-signed-requires c κs = search needs
+figure-at-requires : tie.Need-figure-at-requires Inv-loop μ-loop
+figure-at-requires c κs = search needs
 
 mul-t8 : tie.Need-mul-t8 Inv-loop μ-loop
 mul-t8 c = search needs
@@ -45,10 +44,11 @@ loop-less c = search needs
 
 loop-again : tie.Need-loop-again Inv-loop μ-loop
 loop-again c =
-    let l = c .before .before .before .loop in
-    let bs = c .before .before .before .before .before .args .bytes .now in
-    let v = toZ-ofZ w32 (c .signed .result) (record { sfits = c .signed .ok }) ∙ c .signed .ensures ∙ ap signedOf (c .before .word-at .ensures) in
-    (search needs, simp length-set (search needs), fill-step (pos 0) _ _ (l .i) _ (omega arith) (omega (arith, length-figures bs)) (v ∙ sym (figure-at bs (l .i) (omega arith))) (l .inv .2))
+    let l = c .before .before .loop in
+    let a = c .before .before .before .before .args in
+    let bs : List ℕ = a .bytes .now in
+    let v = toZ-ofZ w32 (c .figure-at .result) (record { sfits = c .figure-at .ok }) ∙ c .figure-at .ensures ∙ sym (getD-drop (a .at) (figuresOf bs) (l .i) (pos 0)) in
+    (search needs, simp length-set (search needs), fill-step (pos 0) _ _ (l .i) _ (omega arith) (omega (arith, length-figures bs, length-drop (a .at) (figuresOf bs))) v (l .inv .2))
 
 same-length : tie.Need-same-length Inv-loop μ-loop
 same-length c = search needs
@@ -65,9 +65,8 @@ read-figures-spec =
     Inv-loop
     μ-loop
     loop-holds
-    mul-word-at
-    word-at-requires
-    signed-requires
+    add-figure-at
+    figure-at-requires
     mul-t8
     slice-set-from-figures
     add-i
