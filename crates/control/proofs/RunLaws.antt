@@ -1,48 +1,31 @@
 -- The two passes and the mark, one after the other, are the control of the definition. Assumes nothing.
 use mathlib.Core.Path.{_≡_, refl, sym, ap, ap₂, subst, _∙_, fun-ext}
-use mathlib.Core.Logic.{inl, inr}
-use mathlib.Core.Bool.{Bool, true, false, not, _&&_, and-false}
+use mathlib.Core.Bool.{true, false}
 use mathlib.Core.List.{List, [], _∷_, _++_}
-use Prim.Native.Nat.{ℕ, zero, suc, _+_, _-_, _*_, _≤_, _<_}
+use Prim.Native.Nat.{ℕ, _+_, _-_, _*_, _≤_, _<_}
 use native.Mathlib.Nat.{le-refl}
 use native.Mathlib.Omega.{arith}
-use lib.Dec.{ltb, leb}
-use lib.ListN.{length, getD, drop, set, replicate, getD-replicate}
+use lib.ListN.{length, drop}
 use lib.Seq.{drop-drop}
-use borrow.Author.Tests.{ltb-true, ltb-false, lt-ltb, le-ltb, not-true, not-false}
+use borrow.Author.Tests.{lt-ltb, le-ltb}
 use Rattle.numbers.specs.Sums.{count}
 use Rattle.numbers.specs.Tests.{all}
-use Rattle.numbers.specs.Causes.{unless, firstOf, ifDone}
-use Rattle.numbers.proofs.TestLaws.{bool-cases, and-split, all-append}
+use Rattle.numbers.proofs.TestLaws.{all-append}
 use Rattle.numbers.proofs.SumLaws.{count-le-length}
-use Rattle.numbers.proofs.CauseLaws.{done-zero, done-else}
-use Rattle.rules.specs.Entry.{Record, keyOf, recordOf, legal, standing, markType, dayOk}
-use Rattle.rules.specs.Words.{isBook, entries, countOf, coefficientOf, toleranceOf, roomIn, usedWords, laid}
-use Rattle.rules.specs.Book.{isClosed, placeOf}
-use Rattle.rules.specs.Stores.{storedAt, posted}
-use Rattle.rules.specs.Control.{Parties, detectedIn, isToCancel, cancelOf, isRepeatedBuyer, firstPass, afterFirst, secondPass, afterSecond, markOf, controlledRecords, detectedParties, cancelledEntries}
-use Rattle.rules.specs.Calls.{control, figuresOn, changed, causeOf, figuresAt, wordsAfter, controlAnswer}
+use Rattle.rules.specs.Entry.{Record, keyOf, legal, markType, dayOk}
+use Rattle.rules.specs.Words.{isBook, entries, countOf, coefficientOf, toleranceOf, roomIn, laid}
+use Rattle.rules.specs.Book.{isClosed}
+use Rattle.rules.specs.Stores.{posted}
+use Rattle.rules.specs.Control.{Parties, isToCancel, cancelOf, firstPass, afterFirst, secondPass, afterSecond, markOf, controlledRecords, detectedParties, cancelledEntries}
+use Rattle.rules.specs.Calls.{control, figuresOn, changed, causeOf, wordsAfter, controlAnswer}
 use Rattle.rules.specs.declared.Controlled.{Controlled}
-use Rattle.rules.proofs.WordLaws.{Fits, room-words, book-facts, book-laid}
+use Rattle.rules.proofs.WordLaws.{book-facts, book-laid}
 use Rattle.rules.proofs.BookLaws.{Stays, laid-stays, posted-book, mark-legal, length-snoc}
 use Rattle.rules.proofs.CancelLaws.{cancel-length, cancel-legals}
 use Rattle.rules.proofs.CallLaws.{refused-words, refused-figures, done-figures, done-words, control-passes, control-cause}
-use Rattle.detection.specs.Tables.{flagged, checked}
-use Rattle.control.specs.Passes.{everyone, cancelledWords, passOf}
+use Rattle.detection.specs.Tables.{ofPass}
+use Rattle.control.specs.Passes.{cancelledWords, passOf}
 use Rattle.control.specs.declared.passes.Passed.{Passed}
-use Rattle.detection.proofs.FlagLaws.{no-party}
-
--- everyone is asked in the first pass
-pub first-checked : (ws : List ℕ) (d : ℕ) → checked ws d everyone ≡ firstPass (coefficientOf ws) (toleranceOf ws) d (entries ws)
-unfolding checked everyone firstPass detectedIn
-first-checked ws d = fun-ext at
-  where
-    at : (p : ℕ) → checked ws d everyone p ≡ firstPass (coefficientOf ws) (toleranceOf ws) d (entries ws) p
-    at p =
-        elim (bool-cases (ltb p 1000)) [
-          | inl e ↦ rw (getD-replicate 1000 p true false (ltb-true p 1000 e))
-          | inr e ↦ rw (no-party p (ltb-false p 1000 e)) (and-false (getD (replicate 1000 true) p false))
-        ]
 
 -- one change of a book after another
 pub stays-after : {ws us vs : List ℕ} {rs ss : List Record} {n m : ℕ} → n ≤ m → Stays ws us rs n → Stays us vs ss m → Stays ws vs ss m
@@ -110,11 +93,15 @@ module _ (ws : List ℕ) (b : isBook ws ≡ true) (d : ℕ) where
         (posted-book ws (keyOf 0 d markType 0) 0 b room)
         n
 
--- the counts of a pass
-pub pass-counts : (ws : List ℕ) (d : ℕ) (who : Parties) {p n : ℕ} → p ≡ detectedParties who → n ≡ count (isToCancel who d) (entries ws) →
-    _≡_ {A = Passed} (record { parties = p; entries = n }) (passOf who d ws)
-unfolding passOf
-pass-counts ws d who p n = ap₂ (λ x y. record { parties = x; entries = y }) p n
+-- a pass by the flags of its parties: its counts, and the words after it
+module _ (ws : List ℕ) (d : ℕ) {flags who : Parties} (e : flags ≡ who) where
+  pub pass-counts : {p n : ℕ} → p ≡ detectedParties flags → n ≡ count (isToCancel flags d) (entries ws) →
+      _≡_ {A = Passed} (record { parties = p; entries = n }) (passOf who d ws)
+  unfolding passOf
+  pass-counts p n = ap₂ (λ x y. record { parties = x; entries = y }) p n ∙ ap (λ w. passOf w d ws) e
+
+  pub pass-words : {us : List ℕ} → us ≡ cancelledWords flags d ws → us ≡ cancelledWords who d ws
+  pass-words u = u ∙ ap (λ w. cancelledWords w d ws) e
 
 -- the whole, call by call
 module _ (ws : List ℕ) (d : ℕ) (z : causeOf ws (control d) ≡ 0) where
@@ -128,60 +115,49 @@ module _ (ws : List ℕ) (d : ℕ) (z : causeOf ws (control d) ≡ 0) where
   run-book = control-passes ws d z .is-book
 
   -- the first pass
-  module _ (sellers : List Bool) (f : flagged sellers ≡ checked ws d everyone) {us : List ℕ} (u : us ≡ cancelledWords (flagged sellers) d ws) where
-    sellers-are : flagged sellers ≡ firstPass R TM d (entries ws)
-    sellers-are = f ∙ first-checked ws d
-
+  module _ {us : List ℕ} (u : us ≡ cancelledWords (ofPass false ws d) d ws) where
     pub after-first : Stays ws us (afterFirst R TM d (entries ws)) (countOf ws)
-    unfolding afterFirst
-    after-first =
-        subst (λ who. Stays ws us (cancelOf who d (entries ws)) (countOf ws)) sellers-are (rw u (pass-stays ws run-book d (flagged sellers)))
+    unfolding afterFirst firstPass ofPass
+    after-first = rw u (pass-stays ws run-book d (ofPass false ws d))
 
     -- the second
-    module _ (repeated buyers : List Bool) (g : flagged repeated ≡ isRepeatedBuyer d (entries us)) (h : flagged buyers ≡ checked us d repeated) where
-      buyers-are : flagged buyers ≡ secondPass R TM d (entries ws)
-      unfolding checked secondPass
-      buyers-are = h ∙ fun-ext at
-        where
-          at : (p : ℕ) → checked us d repeated p ≡ secondPass R TM d (entries ws) p
-          at p =
-              let s = after-first in
-              ap (λ who. who p && detectedIn (coefficientOf us) (toleranceOf us) d (entries us) p) g
-              ∙ rw (s .coefficient, s .tolerance, s .holds)
+    buyers-are : ofPass true us d ≡ secondPass R TM d (entries ws)
+    unfolding ofPass secondPass
+    buyers-are = let s = after-first in fun-ext (λ p. rw (s .coefficient, s .tolerance, s .holds))
 
-      module _ {vs : List ℕ} (v : vs ≡ cancelledWords (flagged buyers) d us) where
-        pub after-second : Stays ws vs (afterSecond R TM d (entries ws)) (countOf ws)
-        unfolding afterSecond
-        after-second =
-            let s = after-first in
-            let t : Stays us vs (cancelOf (flagged buyers) d (entries us)) (countOf us) = rw v (pass-stays us (s .is-book) d (flagged buyers)) in
-            stays-after (le-refl (countOf ws)) s
-            (subst (λ who. Stays us vs (cancelOf who d (afterFirst R TM d (entries ws))) (countOf ws)) buyers-are
-            (subst (λ rs. Stays us vs (cancelOf (flagged buyers) d rs) (countOf ws)) (s .holds)
-            (subst (Stays us vs (cancelOf (flagged buyers) d (entries us))) (s .count) t)))
+    module _ {vs : List ℕ} (v : vs ≡ cancelledWords (ofPass true us d) d us) where
+      pub after-second : Stays ws vs (afterSecond R TM d (entries ws)) (countOf ws)
+      unfolding afterSecond
+      after-second =
+          let s = after-first in
+          let t : Stays us vs (cancelOf (ofPass true us d) d (entries us)) (countOf us) = rw v (pass-stays us (s .is-book) d (ofPass true us d)) in
+          stays-after (le-refl (countOf ws)) s
+          (subst (λ who. Stays us vs (cancelOf who d (afterFirst R TM d (entries ws))) (countOf ws)) buyers-are
+          (subst (λ rs. Stays us vs (cancelOf (ofPass true us d) d rs) (countOf ws)) (s .holds)
+          (subst (Stays us vs (cancelOf (ofPass true us d) d (entries us))) (s .count) t)))
 
-        pub mark-room : countOf vs < roomIn (length vs)
-        mark-room = let s = after-second in rw (s .count, s .long) (control-passes ws d z .room)
+      pub mark-room : countOf vs < roomIn (length vs)
+      mark-room = let s = after-second in rw (s .count, s .long) (control-passes ws d z .room)
 
-        more : countOf vs ≡ countOf ws → countOf ws ≤ countOf vs + 1
-        more e = omega arith
+      more : countOf vs ≡ countOf ws → countOf ws ≤ countOf vs + 1
+      more e = omega arith
 
-        pub run-words : {xs : List ℕ} → xs ≡ posted vs (keyOf 0 d markType 0) 0 → xs ≡ wordsAfter ws (control d)
-        unfolding changed controlledRecords
-        run-words x =
-            let s = after-second in
-            let m = mark-stays vs (s .is-book) d mark-room (control-passes ws d z .day) in
-            x ∙ stays-laid (stays-after (more (s .count)) s m) ∙ rw (s .holds) (sym (done-words ws (control d) z))
+      pub run-words : {xs : List ℕ} → xs ≡ posted vs (keyOf 0 d markType 0) 0 → xs ≡ wordsAfter ws (control d)
+      unfolding changed controlledRecords
+      run-words x =
+          let s = after-second in
+          let m = mark-stays vs (s .is-book) d mark-room (control-passes ws d z .day) in
+          x ∙ stays-laid (stays-after (more (s .count)) s m) ∙ rw (s .holds) (sym (done-words ws (control d) z))
 
-      -- its counts
-      module _ {first second : Passed} (m : first ≡ passOf (flagged sellers) d ws) (n : second ≡ passOf (flagged buyers) d us) where
-        pub run-answers : _≡_ {A = Controlled} (record { answer = 0; first = first .parties; second = second .parties; cancelled = first .entries + second .entries }) (controlAnswer ws d)
-        unfolding figuresOn cancelledEntries passOf
-        run-answers = rw (z, done-figures ws (control d) z, m, n, after-first .holds, sellers-are, buyers-are)
+    -- their counts
+    module _ {first second : Passed} (m : first ≡ passOf (ofPass false ws d) d ws) (n : second ≡ passOf (ofPass true us d) d us) where
+      pub run-answers : _≡_ {A = Controlled} (record { answer = 0; first = first .parties; second = second .parties; cancelled = first .entries + second .entries }) (controlAnswer ws d)
+      unfolding figuresOn cancelledEntries passOf firstPass ofPass
+      run-answers = rw (z, done-figures ws (control d) z, m, n, after-first .holds, buyers-are)
 
-        pub run-fits : first .entries + second .entries ≤ 6144
-        run-fits =
-            rw (m, n) (omega (arith, pass-few ws run-book d (flagged sellers), pass-few us (after-first .is-book) d (flagged buyers)))
+      pub run-fits : first .entries + second .entries ≤ 6144
+      run-fits =
+          rw (m, n) (omega (arith, pass-few ws run-book d (ofPass false ws d), pass-few us (after-first .is-book) d (ofPass true us d)))
 
 -- why it comes back
 module _ (ws : List ℕ) (d : ℕ) where

@@ -1,17 +1,11 @@
 -- What a pass of a control makes of a book's words, and its counts.
 -- Only the contracts of internal functions cite these; the laws tie them to rules/specs/Control.
-use mathlib.Core.Bool.{Bool, true}
 use mathlib.Core.List.{List}
 use Prim.Native.Nat.{ℕ}
-use lib.ListN.{replicate}
-use Rattle.rules.specs.Entry.{partyPlaces}
 use Rattle.numbers.specs.Sums.{count}
 use Rattle.rules.specs.Words.{entries, coefficientOf, toleranceOf, laid}
 use Rattle.rules.specs.Control.{Parties, isToCancel, cancelOf, detectedParties}
 use Rattle.control.specs.declared.passes.Passed.{Passed}
-
-unfoldable pub everyone : List Bool
-everyone = replicate partyPlaces true
 
 -- the words after a pass, and its counts
 unfoldable pub cancelledWords : Parties → ℕ → List ℕ → List ℕ

@@ -2,10 +2,7 @@
 ghost use mathlib.Core.Path.{_≡_};
 ghost use Rattle.rules.specs.Calls.{causeOf, wordsAfter, controlAnswer};
 ghost use Rattle.rules.specs.Calls as calls;
-use detection::pairs;
-use detection::sums;
 use rules::Controlled;
-use rules::bounds::NUMBERS;
 use rules::causes;
 
 mod passes;
@@ -35,15 +32,8 @@ fn run(book: &mut [u32], day: u32) -> Controlled
     ensures answer { λ r. ⌜ r ≡ controlAnswer (now (book .entry)) day ⌝ }
     ensures words { λ r. ⌜ now (book .exit) ≡ wordsAfter (now (book .entry)) (calls.control day) ⌝ }
 {
-    let everyone = [true; NUMBERS];
-    let mut sellers = [false; NUMBERS];
-    sums::detect(book, day, &everyone, &mut sellers);
-    let first = passes::pass(book, day, &sellers);
-    let mut repeated = [false; NUMBERS];
-    pairs::flag_buyers(book, day, &mut repeated);
-    let mut buyers = [false; NUMBERS];
-    sums::detect(book, day, &repeated, &mut buyers);
-    let second = passes::pass(book, day, &buyers);
+    let first = passes::pass(book, day, false);
+    let second = passes::pass(book, day, true);
     passes::append_mark(book, day);
     Controlled {
         answer: 0,

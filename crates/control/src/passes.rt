@@ -8,7 +8,7 @@ ghost use Rattle.rules.specs.Entry.{keyOf, markType, lastParty, lastDay, record
 ghost use Rattle.rules.specs.Words.{isBook, entries, countOf, roomIn};
 ghost use Rattle.rules.specs.Stores.{posted};
 ghost use Rattle.rules.specs.Control.{isToCancel, detectedParties};
-ghost use Rattle.detection.specs.Tables.{flagged};
+ghost use Rattle.detection.specs.Tables.{flagged, ofPass};
 ghost use Rattle.control.specs.Passes.{cancelledWords, passOf};
 use detection::sums::Flags;
 use rules::Entry;
@@ -72,14 +72,17 @@ fn count_flags(flags: &Flags) -> u32
     n
 }
 
-// One pass: the flagged parties are counted, and their sales cancelled together.
-pub fn pass(book: &mut [u32], day: u32, flags: &Flags) -> Passed
+// One pass: its parties are counted, and their sales cancelled together. Two calls of it keep the compiler from putting
+// its table, 144,000 bytes, into the frame of its caller: a refused control needs no such stack.
+pub fn pass(book: &mut [u32], day: u32, second: bool) -> Passed
     requires { ⌜ isBook (now book) ≡ true ⌝ }
-    ensures counts { λ r. ⌜ r ≡ passOf (flagged (now (flags .entry))) day (now (book .entry)) ⌝ }
-    ensures words { λ r. ⌜ now (book .exit) ≡ cancelledWords (flagged (now (flags .entry))) day (now (book .entry)) ⌝ }
+    ensures counts { λ r. ⌜ r ≡ passOf (ofPass second (now (book .entry)) day) day (now (book .entry)) ⌝ }
+    ensures words { λ r. ⌜ now (book .exit) ≡ cancelledWords (ofPass second (now (book .entry)) day) day (now (book .entry)) ⌝ }
 {
-    let parties = count_flags(flags);
-    let entries = cancel(book, day, flags);
+    let mut flags = [false; NUMBERS];
+    detection::flag_parties(book, day, second, &mut flags);
+    let parties = count_flags(&flags);
+    let entries = cancel(book, day, &flags);
     Passed { parties, entries }
 }
 

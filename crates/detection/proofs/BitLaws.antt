@@ -3,18 +3,19 @@ use mathlib.Core.Path.{_≡_, sym, ap, _∙_}
 use mathlib.Core.Logic.{inl, inr}
 use mathlib.Core.Bool.{Bool, true, false, _||_}
 use mathlib.Core.List.{List}
-use Prim.Native.Nat.{ℕ, zero, suc, _+_, _-_, _*_, _/_, _%_, _^_, _<_, max}
+use Prim.Native.Nat.{ℕ, suc, _+_, _-_, _*_, _/_, _%_, _^_, _<_, max}
 use native.Mathlib.Nat.{div-eq-of-lt, mul-mod-left, max-zero, pow-suc, one-mul}
 use native.Mathlib.Omega.{arith}
 use lib.Bits.{bitOr, or-step, or-shr}
 use lib.Pow.{pow-pos, pow-lt, pow-add, shl-shr, shl-exact}
 use lib.Dec.{eqb, leb}
-use lib.ListN.{length, getD, set, replicate, length-set}
+use lib.ListN.{length, getD, set, length-set}
 use lib.Seq.{getD-set-same, getD-set-other}
 use borrow.Author.Tests.{eqb-true, eqb-false, eq-eqb, ne-eqb, leb-true, leb-false}
 use Rattle.numbers.proofs.TestLaws.{bool-cases}
 use Rattle.numbers.proofs.ListLaws.{getD-blank}
-use Rattle.detection.specs.Tables.{mostBits, bitAt, withBit}
+use Rattle.cells.specs.Cells.{blank}
+use Rattle.detection.specs.Tables.{tableCells, mostBits, bitAt, withBit}
 
 -- whether bit n of a number is set
 abbrev odd : ℕ → ℕ → Bool
@@ -63,7 +64,7 @@ pub length-bit : (words : List ℕ) (k : ℕ) → length (withBit words k) ≡ l
 unfolding withBit
 length-bit words k = length-set words (k / 64) (bitOr (getD words (k / 64) 0) (2 ^ (k % 64)))
 
-pub bit-after : (words : List ℕ) (k j : ℕ) → length words ≡ 16000 → k < mostBits → bitAt (withBit words k) j ≡ eqb k j || bitAt words j
+pub bit-after : (words : List ℕ) (k j : ℕ) → length words ≡ tableCells → k < mostBits → bitAt (withBit words k) j ≡ eqb k j || bitAt words j
 unfolding withBit bitAt
 bit-after words k j long h =
     elim (bool-cases (eqb (j / 64) (k / 64))) [
@@ -83,8 +84,8 @@ bit-after words k j long h =
           | inr e ↦ let s = eqb-false k j e in rw e (ne-eqb (k % 64) (j % 64) (λ t. s (omega arith)))
         ]
 
-pub no-bit : (n j : ℕ) → bitAt (replicate n 0) j ≡ false
-unfolding bitAt
+pub no-bit : (n j : ℕ) → bitAt (blank n) j ≡ false
+unfolding bitAt blank
 no-bit n j = rw (getD-blank {A = ℕ} n (j / 64) 0) (ap (λ k. eqb (k % 2) 1) (div-eq-of-lt (pow-pos (j % 64))))
 
 -- the word that the code stores

@@ -1,21 +1,24 @@
 -- The parties that the table detects are those of the definition. Assumes nothing.
-use mathlib.Core.Path.{_≡_, fun-ext}
+use mathlib.Core.Path.{_≡_, sym, ap, subst, _∙_, fun-ext}
 use mathlib.Core.Logic.{inl, inr}
-use mathlib.Core.Bool.{Bool, true}
+use mathlib.Core.Bool.{Bool, true, false, not, _&&_, and-false}
 use mathlib.Core.List.{List}
 use Prim.Native.Nat.{ℕ, _+_, _*_}
 use native.Mathlib.Nat.{le-refl}
-use lib.ListN.{getD}
+use lib.Dec.{ltb}
+use lib.ListN.{getD, replicate, getD-replicate}
+use borrow.Author.Tests.{ltb-true, ltb-false}
 use Rattle.numbers.proofs.TestLaws.{bool-cases}
-use Rattle.rules.specs.Entry.{partyOk}
+use Rattle.rules.specs.Entry.{partyOk, partyPlaces}
 use Rattle.rules.specs.Words.{isBook, entries, countOf, coefficientOf, toleranceOf}
 use Rattle.rules.specs.Balance.{balance}
-use Rattle.rules.specs.Control.{detectedIn}
+use Rattle.rules.specs.Control.{detectedIn, isRepeatedBuyer}
 use Rattle.rules.proofs.WordLaws.{book-facts, within-true}
 use Rattle.cells.specs.Cells.{AtMost}
 use Rattle.cells.proofs.ScanLaws.{table-to}
 use Rattle.tally.specs.Bounded.{Bounded, mostSum}
-use Rattle.detection.specs.Tables.{noFlags, partyCells, tableCells, tallyAt, boughtCell, tableOf, detectedAmong, checked, Flaggable}
+use Rattle.detection.specs.Tables.{flagged, noFlags, partyCells, tableCells, tallyAt, boughtCell, tableOf, detectedAmong, checked, ofPass, Flaggable}
+use Rattle.detection.proofs.FlagLaws.{no-party}
 use Rattle.detection.proofs.TableLaws.{day-limited, length-table, sum-at, bought-cell, tally-cells}
 
 module _ (ws : List ℕ) (b : isBook ws ≡ true) (d : ℕ) where
@@ -54,3 +57,29 @@ module _ (ws : List ℕ) (b : isBook ws ≡ true) (d : ℕ) where
                 rw (e, tally-cells d (entries ws) p (r .1), bought-cell d (entries ws) p (r .1) (r .0))
             | inr k ↦ rw k
           ]
+
+-- who is asked in a pass: in the first everyone, in the second the buyers of repeated pairs
+module _ {second : Bool} where
+  pub none-yet : second ≡ true → replicate partyPlaces (not second) ≡ noFlags
+  unfolding noFlags
+  none-yet e = ap (λ b. replicate partyPlaces (not b)) e
+
+  module _ (ws : List ℕ) (d : ℕ) (among : List Bool) where
+    pub all-asked : second ≡ false → among ≡ replicate partyPlaces (not second) → checked ws d among ≡ ofPass second ws d
+    unfolding checked ofPass detectedIn
+    all-asked e q = subst (λ b. checked ws d among ≡ ofPass b ws d) (sym e) (fun-ext at)
+      where
+        at : (p : ℕ) → checked ws d among p ≡ ofPass false ws d p
+        at p =
+            elim (bool-cases (ltb p partyPlaces)) [
+              | inl l ↦
+                  let k : flagged among p ≡ not second = ap (λ flags. flagged flags p) q ∙ getD-replicate partyPlaces p (not second) false (ltb-true p partyPlaces l) in
+                  rw (k, e)
+              | inr l ↦ rw (no-party p (ltb-false p partyPlaces l)) (and-false (flagged among p))
+            ]
+
+    pub buyers-asked : second ≡ true → flagged among ≡ isRepeatedBuyer d (entries ws) → checked ws d among ≡ ofPass second ws d
+    unfolding checked ofPass
+    buyers-asked e q =
+        subst (λ b. checked ws d among ≡ ofPass b ws d) (sym e)
+        (fun-ext (λ p. ap (λ who. who p && detectedIn (coefficientOf ws) (toleranceOf ws) d (entries ws) p) q))

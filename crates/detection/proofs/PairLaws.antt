@@ -1,21 +1,21 @@
 -- The bits of pairs and the flags of buyers are those of the definition of a repeated pair. Assumes nothing.
 use mathlib.Core.Path.{_≡_, refl, sym, ap, ap₂, _∙_, fun-ext}
 use mathlib.Core.Logic.{inl, inr}
-use mathlib.Core.Bool.{Bool, true, false, not, cond, _&&_, _||_, false≢true}
+use mathlib.Core.Bool.{Bool, true, false, not, _&&_, _||_, false≢true}
 use mathlib.Core.List.{List, [], _∷_}
-use Prim.Native.Nat.{ℕ, _+_, _-_, _*_, _≤_, _<_}
+use Prim.Native.Nat.{ℕ, _≤_, _<_}
 use native.Mathlib.Omega.{arith}
 use lib.Dec.{eqb, leb, ltb}
 use lib.ListN.{length, length-replicate}
-use borrow.Author.Tests.{eqb-true, eqb-false, eq-eqb, ne-eqb, leb-true, ltb-true, not-true, not-false}
+use borrow.Author.Tests.{eqb-true, eq-eqb, ne-eqb, leb-true, ltb-true, not-true, not-false}
 use Rattle.numbers.specs.Tests.{every, all, any}
-use Rattle.numbers.proofs.TestLaws.{bool-cases, and-split, and-join, or-cases, every-holds, holds-every}
+use Rattle.numbers.proofs.TestLaws.{bool-cases, and-split, and-join, or-cases, every-holds}
 use Rattle.calendar.specs.Calendar.{monthOf}
 use Rattle.rules.specs.Entry.{Record, key, legal, fault, statusOk, markOk, isCancelled, isStanding, isMark, isBilateral, dayOk}
 use Rattle.rules.specs.Control.{isEarlierOrLater, isRepeatedBuyer}
-use Rattle.rules.proofs.WordLaws.{Faultless, no-fault}
-use Rattle.cells.specs.Cells.{over}
-use Rattle.detection.specs.Tables.{flagged, noFlags, isOther, Paired, pairOf, mostBits, bitAt, withBit, withFlag, noPairs, marked, pairMarked, pairsOf, isRepeated, buyerMarked, buyersOf}
+use Rattle.rules.proofs.WordLaws.{no-fault}
+use Rattle.cells.specs.Cells.{over, blank}
+use Rattle.detection.specs.Tables.{flagged, noFlags, isOther, Paired, pairOf, mostBits, bitAt, withBit, withFlag, tableCells, marked, pairMarked, pairsOf, isRepeated, buyerMarked, buyersOf}
 use Rattle.detection.proofs.FlagLaws.{no-flag, length-no-flags, length-flag, flag-after}
 use Rattle.detection.proofs.BitLaws.{length-bit, bit-after, no-bit}
 
@@ -107,13 +107,9 @@ or-none : (a b : Bool) → b ≡ false → a || b ≡ a
 or-none true b e = refl
 or-none false b e = e
 
-no-pair : (j : ℕ) → bitAt noPairs j ≡ false
-unfolding noPairs
-no-pair j = no-bit 16000 j
-
-length-no-pairs : length noPairs ≡ 16000
-unfolding noPairs
-length-no-pairs = length-replicate {A = ℕ} 16000 0
+length-no-pairs : length (blank tableCells) ≡ tableCells
+unfolding blank
+length-no-pairs = length-replicate {A = ℕ} tableCells 0
 
 pub pair-in : (r : Record) {k : ℕ} → Paired r → k ≡ pairOf r → k < mostBits
 pair-in r p q = omega arith
@@ -164,8 +160,8 @@ module _ (d : ℕ) (rs : List Record) (ok : all legal rs ≡ true) where
   pub pair-bit : (r : Record) → Paired r → bitAt (pairsOf d rs) (pairOf r) ≡ any (isEarlierOrLater d r) rs
   unfolding pairsOf pairMarked isOther
   pair-bit r p =
-      over-marked withBit (isOther d) pairOf bitAt 16000 mostBits length-bit bit-after (λ s l e. pair-in s (paired s l (other-cancelled d s e)) refl) rs noPairs (pairOf r) ok length-no-pairs
-      ∙ or-none _ _ (no-pair (pairOf r))
+      over-marked withBit (isOther d) pairOf bitAt tableCells mostBits length-bit bit-after (λ s l e. pair-in s (paired s l (other-cancelled d s e)) refl) rs (blank tableCells) (pairOf r) ok length-no-pairs
+      ∙ or-none _ _ (no-bit tableCells (pairOf r))
       ∙ any-same legal (λ s. isOther d s && eqb (pairOf s) (pairOf r)) (isEarlierOrLater d r) same rs ok
     where
       order : (p b o m : Bool) → (o && m) && (p && b) ≡ ((p && b) && o) && m

@@ -12,8 +12,8 @@ use Rattle.calendar.specs.Calendar.{monthOf}
 use Rattle.rules.specs.Entry.{Record, key, isCancelled, bilateral, partyOk, lastParty, partyPlaces}
 use Rattle.rules.specs.Words.{entries, coefficientOf, toleranceOf}
 use Rattle.rules.specs.Balance.{dayAhead, balanceOf, isDetected, sumCount, sumPlace}
-use Rattle.rules.specs.Control.{Parties, detectedIn}
-use Rattle.cells.specs.Cells.{Cells, oneIf, over, filled}
+use Rattle.rules.specs.Control.{Parties, detectedIn, isRepeatedBuyer}
+use Rattle.cells.specs.Cells.{Cells, oneIf, over, blank, filled}
 use Rattle.tally.specs.Scan.{counts}
 use Rattle.tally.specs.Bounded.{Bounded}
 use Rattle.rules.specs.declared.Tally.{Tally}
@@ -60,6 +60,10 @@ detectedAmong cells R TM among p =
 unfoldable pub checked : List ℕ → ℕ → List Bool → Parties
 checked ws d among p = flagged among p && detectedIn (coefficientOf ws) (toleranceOf ws) d (entries ws) p
 
+-- the parties of a pass over a book: those detected, in the second pass among the buyers of repeated pairs
+unfoldable pub ofPass : Bool → List ℕ → ℕ → Parties
+ofPass second ws d p = cond second (isRepeatedBuyer d (entries ws) p) true && detectedIn (coefficientOf ws) (toleranceOf ws) d (entries ws) p
+
 -- a table whose balances fit, and flags of which none is set
 pub record Flaggable (cells : List ℕ) (R TM : ℕ) (flags : List Bool) : Type 0 where
   pub long : length cells ≡ tableCells
@@ -81,7 +85,7 @@ pub record Paired (r : Record) : Type 0 where
 abbrev pub pairOf : Record → ℕ
 pairOf r = 1024 * key r .party + key r .counterparty
 
--- a table of bits, 16,000 words of 64
+-- all bits of pairs: they lie in the first 16,000 cells of the table, 64 to a cell
 abbrev pub mostBits : ℕ
 mostBits = 1024000
 
@@ -99,14 +103,11 @@ module _ {A : Type 0} where
   unfoldable pub marked : (List A → ℕ → List A) → (Record → Bool) → (Record → ℕ) → Record → List A → List A
   marked mark test place r table = cond (test r) (mark table (place r)) table
 
-unfoldable pub noPairs : List ℕ
-noPairs = replicate 16000 0
-
 unfoldable pub pairMarked : ℕ → Record → List ℕ → List ℕ
 pairMarked d = marked withBit (isOther d) pairOf
 
 unfoldable pub pairsOf : ℕ → List Record → List ℕ
-pairsOf d rs = over (pairMarked d) rs noPairs
+pairsOf d rs = over (pairMarked d) rs (blank tableCells)
 
 -- a cancelled entry of the day whose pair is marked
 unfoldable pub isRepeated : ℕ → List ℕ → Record → Bool

@@ -5,10 +5,11 @@ ghost use Rattle.calendar.specs.Calendar.{monthOf};
 ghost use Rattle.rules.specs.Entry.{legal, recordIn};
 ghost use Rattle.rules.specs.Words.{isBook, entries};
 ghost use Rattle.rules.specs.Control.{isRepeatedBuyer};
-ghost use Rattle.detection.specs.Tables.{flagged, noFlags, noPairs, isOther, Paired, pairOf, pairMarked, pairsOf, buyerMarked, buyersOf};
+ghost use Rattle.cells.specs.Cells.{blank};
+ghost use Rattle.detection.specs.Tables.{flagged, noFlags, tableCells, isOther, Paired, pairOf, pairMarked, pairsOf, buyerMarked, buyersOf};
 use crate::bits;
-use crate::bits::Bits;
 use crate::sums::Flags;
+use crate::sums::Table;
 use rules::Entry;
 use rules::layout::CANCELLED;
 use rules::layout::ENTRY_WORDS;
@@ -40,7 +41,7 @@ fn pair_of(e: Entry) -> usize
     (1024 * e.key.party + e.key.counterparty) as usize
 }
 
-fn mark_pair(pairs: &mut Bits, e: Entry, day: u32, period: u32)
+fn mark_pair(pairs: &mut Table, e: Entry, day: u32, period: u32)
     requires { ⌜ period ≡ monthOf day ⌝ }
     requires { ⌜ legal (recordIn e) ≡ true ⌝ }
     ensures { λ _. ⌜ now (pairs .exit) ≡ pairMarked day (recordIn e) (now (pairs .entry)) ⌝ }
@@ -52,9 +53,9 @@ fn mark_pair(pairs: &mut Bits, e: Entry, day: u32, period: u32)
 }
 
 // Marks the pairs with a cancelled entry of another day of the billing period.
-fn mark_pairs(book: &[u32], day: u32, pairs: &mut Bits)
+fn mark_pairs(book: &[u32], day: u32, pairs: &mut Table)
     requires { ⌜ isBook (now book) ≡ true ⌝ }
-    requires { ⌜ now pairs ≡ noPairs ⌝ }
+    requires { ⌜ now pairs ≡ blank tableCells ⌝ }
     ensures { λ _. ⌜ now (pairs .exit) ≡ pairsOf day (entries (now (book .entry))) ⌝ }
 {
     let period = period_of(day);
@@ -68,7 +69,7 @@ fn mark_pairs(book: &[u32], day: u32, pairs: &mut Bits)
 }
 
 // Flags the buyer of a cancelled entry of the day whose pair is marked.
-fn mark_buyer(buyers: &mut Flags, e: Entry, day: u32, pairs: &Bits)
+fn mark_buyer(buyers: &mut Flags, e: Entry, day: u32, pairs: &Table)
     requires { ⌜ legal (recordIn e) ≡ true ⌝ }
     ensures { λ _. ⌜ now (buyers .exit) ≡ buyerMarked day (now (pairs .entry)) (recordIn e) (now (buyers .entry)) ⌝ }
 {
@@ -81,7 +82,7 @@ fn mark_buyer(buyers: &mut Flags, e: Entry, day: u32, pairs: &Bits)
     }
 }
 
-fn mark_buyers(book: &[u32], day: u32, pairs: &Bits, buyers: &mut Flags)
+fn mark_buyers(book: &[u32], day: u32, pairs: &Table, buyers: &mut Flags)
     requires { ⌜ isBook (now book) ≡ true ⌝ }
     requires { ⌜ now buyers ≡ noFlags ⌝ }
     ensures { λ _. ⌜ now (buyers .exit) ≡ buyersOf day (now (pairs .entry)) (entries (now (book .entry))) ⌝ }
@@ -96,12 +97,12 @@ fn mark_buyers(book: &[u32], day: u32, pairs: &Bits, buyers: &mut Flags)
 }
 
 // Flags the buyers of repeated pairs: those with cancelled entries of the day and of another day of the billing period.
-pub fn flag_buyers(book: &[u32], day: u32, buyers: &mut Flags)
+pub fn flag_buyers(book: &[u32], day: u32, pairs: &mut Table, buyers: &mut Flags)
     requires { ⌜ isBook (now book) ≡ true ⌝ }
+    requires { ⌜ now pairs ≡ blank tableCells ⌝ }
     requires { ⌜ now buyers ≡ noFlags ⌝ }
     ensures { λ _. ⌜ flagged (now (buyers .exit)) ≡ isRepeatedBuyer day (entries (now (book .entry))) ⌝ }
 {
-    let mut pairs = [0u64; bits::WORDS];
-    mark_pairs(book, day, &mut pairs);
-    mark_buyers(book, day, &pairs, buyers);
+    mark_pairs(book, day, pairs);
+    mark_buyers(book, day, pairs, buyers);
 }

@@ -27,9 +27,9 @@ pub type Flags = [bool; NUMBERS];
 // The cells of each number: a party's sums of the day, and B.
 const PARTY_CELLS: usize = SUMS + 1;
 
-const CELLS: usize = PARTY_CELLS * NUMBERS;
+pub const CELLS: usize = PARTY_CELLS * NUMBERS;
 
-type Table = [u64; CELLS];
+pub type Table = [u64; CELLS];
 
 // Whether an entry counts: standing, of the day, of a volume type, no export.
 fn counts(e: Entry, day: u32) -> bool
@@ -128,15 +128,15 @@ fn flag_detected(table: &Table, coefficient: u32, tolerance: u32, among: &Flags,
 }
 
 // Flags the parties among some whose day-ahead balance of the day is detected.
-pub fn detect(book: &[u32], day: u32, among: &Flags, flags: &mut Flags)
+pub fn detect(book: &[u32], day: u32, table: &mut Table, among: &Flags, flags: &mut Flags)
     requires { ⌜ isBook (now book) ≡ true ⌝ }
+    requires { ⌜ now table ≡ blank tableCells ⌝ }
     requires { ⌜ now flags ≡ noFlags ⌝ }
     ensures { λ _. ⌜ flagged (now (flags .exit)) ≡ checked (now (book .entry)) day (now (among .entry)) ⌝ }
 {
-    let mut table = [0u64; CELLS];
-    fill(book, day, &mut table);
+    fill(book, day, table);
     flag_detected(
-        &table,
+        table,
         words::coefficient_of(book),
         words::tolerance_of(book),
         among,

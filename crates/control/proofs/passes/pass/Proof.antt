@@ -1,8 +1,14 @@
 -- `control::passes::pass` meets its contract. Assumes nothing.
-use Rattle.control.proofs.RunLaws.{pass-counts}
+use mathlib.Core.Path.{refl}
+use Rattle.detection.specs.Tables.{noFlags}
+use Rattle.control.proofs.RunLaws.{pass-counts, pass-words}
 use borrow.Author.Needs.{needs}
 use Rattle.control.proofs.passes.pass.Statement.{statement}
 use Rattle.control.proofs.passes.pass.Tie as tie
+
+flag-parties-requires : tie.Need-flag-parties-requires
+unfolding noFlags
+flag-parties-requires c κs = (c .before .before .before .pre, refl)
 
 count-flags-requires : tie.Need-count-flags-requires
 count-flags-requires c κs = search needs
@@ -16,8 +22,11 @@ same-length c = search needs
 returns : tie.Need-returns
 returns c =
     let cancelled = c .before .before in
-    let counted = cancelled .before .before in
-    (pass-counts _ _ _ (counted .count-flags .ensures) (cancelled .cancel .ensures .0), cancelled .cancel .ensures .1)
+    let counted = cancelled .before .before .before in
+    let e = counted .before .before .flag-parties .ensures in
+    (pass-counts _ _ e (counted .count-flags .ensures) (cancelled .cancel .ensures .0), pass-words _ _ e (cancelled .cancel .ensures .1))
 
 pub pass-spec : {M : Type 1} → statement M
-pass-spec = tie.close (tie.spec count-flags-requires cancel-requires same-length returns)
+pass-spec =
+    tie.close
+    (tie.spec flag-parties-requires count-flags-requires cancel-requires same-length returns)

@@ -1,19 +1,18 @@
 -- `detection::pairs::flag_buyers` meets its contract. Assumes nothing.
-use mathlib.Core.Path.{_≡_, refl, ap, _∙_}
+use mathlib.Core.Path.{ap, _∙_}
 use Rattle.rules.specs.Words.{entries}
 use Rattle.rules.proofs.WordLaws.{book-facts}
-use Rattle.detection.specs.Tables.{flagged, noPairs, buyersOf}
+use Rattle.detection.specs.Tables.{flagged, buyersOf}
 use Rattle.detection.proofs.PairLaws.{buyers-flagged}
 use borrow.Author.Needs.{needs}
 use Rattle.detection.proofs.pairs.flag_buyers.Statement.{statement}
 use Rattle.detection.proofs.pairs.flag_buyers.Tie as tie
 
 mark-pairs-requires : tie.Need-mark-pairs-requires
-unfolding noPairs
-mark-pairs-requires c κs = (c .before .before .pre .0, refl)
+mark-pairs-requires c κs = search needs
 
 mark-buyers-requires : tie.Need-mark-buyers-requires
-mark-buyers-requires c κs = c .before .before .before .before .before .pre
+mark-buyers-requires c κs = search needs
 
 returns : tie.Need-returns
 returns c =

@@ -1,13 +1,14 @@
 -- `detection::pairs::mark_pairs` meets its contract. The loop's invariant: the bits are those of the entries passed. Assumes nothing.
 use Prim.Native.Nat.{_-_}
-use Rattle.detection.specs.Tables.{pairMarked, noPairs, pairsOf}
+use Rattle.cells.specs.Cells.{blank}
+use Rattle.detection.specs.Tables.{pairMarked, tableCells, pairsOf}
 use Rattle.cells.proofs.ScanLaws.{Scanned, scan}
 use borrow.Author.Needs.{needs}
 use Rattle.detection.proofs.pairs.mark_pairs.Statement.{statement}
 use Rattle.detection.proofs.pairs.mark_pairs.Tie as tie
 
 abbrev Inv-loop : tie.InvT-loop
-Inv-loop book day pairs₀ period count i₀ pairs i = Scanned (pairMarked day) noPairs book count i pairs
+Inv-loop book day pairs₀ period count i₀ pairs i = Scanned (pairMarked day) (blank tableCells) book count i pairs
 
 abbrev μ-loop : tie.MeasureT-loop
 μ-loop book day pairs₀ period count i₀ pairs i = count - i

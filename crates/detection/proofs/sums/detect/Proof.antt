@@ -1,14 +1,13 @@
 -- `detection::sums::detect` meets its contract. Assumes nothing.
-use mathlib.Core.Path.{refl, _∙_}
+use mathlib.Core.Path.{_∙_}
 use Rattle.words.proofs.BookCode.{book-long}
-use Rattle.cells.specs.Cells.{blank}
+use borrow.Author.Needs.{needs}
 use Rattle.detection.proofs.DetectLaws.{flaggable, table-detects}
 use Rattle.detection.proofs.sums.detect.Statement.{statement}
 use Rattle.detection.proofs.sums.detect.Tie as tie
 
 fill-requires : tie.Need-fill-requires
-unfolding blank
-fill-requires c κs = (c .before .before .pre .0, refl)
+fill-requires c κs = search needs
 
 coefficient-of-requires : tie.Need-coefficient-of-requires
 coefficient-of-requires c κs = search book-long
