@@ -1,8 +1,12 @@
 -- What a pass of a control makes of a book's words, and its counts.
 -- Only the contracts of internal functions cite these; the laws tie them to rules/specs/Control.
-use mathlib.Core.List.{List}
+use mathlib.Core.Bool.{Bool, _||_}
+use mathlib.Core.List.{List, [], _∷_}
 use Prim.Native.Nat.{ℕ}
+use lib.Dec.{eqb}
 use Rattle.numbers.specs.Sums.{count}
+use Rattle.numbers.specs.Tests.{every}
+use Rattle.rules.specs.Entry.{Record, key, isCancelled}
 use Rattle.rules.specs.Words.{entries, coefficientOf, toleranceOf, laid}
 use Rattle.rules.specs.Control.{Parties, isToCancel, cancelOf, detectedParties}
 use Rattle.control.specs.declared.passes.Passed.{Passed}
@@ -13,3 +17,11 @@ cancelledWords who d ws = laid (coefficientOf ws) (toleranceOf ws) (cancelOf who
 
 unfoldable pub passOf : Parties → ℕ → List ℕ → Passed
 passOf who d ws = record { parties = detectedParties who; entries = count (isToCancel who d) (entries ws) }
+
+-- a cancelled entry of the day
+unfoldable pub isCancelledOn : ℕ → Record → Bool
+isCancelledOn d r = every (isCancelled r ∷ eqb (key r .day) d ∷ [])
+
+-- whether one was seen, with one entry more
+unfoldable pub seen : ℕ → Record → Bool → Bool
+seen d r s = s || isCancelledOn d r

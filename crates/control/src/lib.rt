@@ -33,7 +33,7 @@ fn run(book: &mut [u32], day: u32) -> Controlled
     ensures words { λ r. ⌜ now (book .exit) ≡ wordsAfter (now (book .entry)) (calls.control day) ⌝ }
 {
     let first = passes::pass(book, day, false);
-    let second = passes::pass(book, day, true);
+    let second = passes::second_pass(book, day);
     passes::append_mark(book, day);
     Controlled {
         answer: 0,

@@ -4,12 +4,13 @@ ghost use mathlib.Core.Bool.{true, false};
 ghost use Prim.Native.Nat.{_+_, _<_, _≤_};
 ghost use lib.ListN.{length};
 ghost use Rattle.numbers.specs.Sums.{count};
+ghost use Rattle.numbers.specs.Tests.{any};
 ghost use Rattle.rules.specs.Entry.{keyOf, markType, lastParty, lastDay, recordIn};
 ghost use Rattle.rules.specs.Words.{isBook, entries, countOf, roomIn};
 ghost use Rattle.rules.specs.Stores.{posted};
 ghost use Rattle.rules.specs.Control.{isToCancel, detectedParties};
 ghost use Rattle.detection.specs.Tables.{flagged, ofPass};
-ghost use Rattle.control.specs.Passes.{cancelledWords, passOf};
+ghost use Rattle.control.specs.Passes.{cancelledWords, passOf, isCancelledOn};
 use detection::sums::Flags;
 use rules::Entry;
 use rules::Key;
@@ -84,6 +85,38 @@ pub fn pass(book: &mut [u32], day: u32, second: bool) -> Passed
     let parties = count_flags(&flags);
     let entries = cancel(book, day, &flags);
     Passed { parties, entries }
+}
+
+// Whether an entry of the day is cancelled: false only where none is.
+fn has_cancelled(book: &[u32], day: u32) -> bool
+    requires { ⌜ isBook (now book) ≡ true ⌝ }
+    ensures { λ r. ⌜ (r ≡ false → any (isCancelledOn day) (entries (now (book .entry))) ≡ false) ⌝ }
+{
+    let count = words::count_of(book) as usize;
+    let mut i = 0;
+    while i < count {
+        let e = words::read_at(book, HEAD_WORDS + ENTRY_WORDS * i);
+        if (e.status == CANCELLED) & (e.key.day == day) {
+            return true;
+        }
+        i += 1;
+    }
+    false
+}
+
+// The second pass. Without a cancelled entry of the day no pair is repeated, and the pass has no party.
+pub fn second_pass(book: &mut [u32], day: u32) -> Passed
+    requires { ⌜ isBook (now book) ≡ true ⌝ }
+    ensures counts { λ r. ⌜ r ≡ passOf (ofPass true (now (book .entry)) day) day (now (book .entry)) ⌝ }
+    ensures words { λ r. ⌜ now (book .exit) ≡ cancelledWords (ofPass true (now (book .entry)) day) day (now (book .entry)) ⌝ }
+{
+    if !has_cancelled(book, day) {
+        return Passed {
+            parties: 0,
+            entries: 0,
+        };
+    }
+    pass(book, day, true)
 }
 
 // The mark of a day takes the next place.
