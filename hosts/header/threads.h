@@ -149,7 +149,7 @@ static void stacks(void)
     NEEDS(on_month, 10);
     three_days();
     answers = 0;
-    NEEDS(on_control, 208);
+    NEEDS(on_control, 203);
     CHECK(answers == 2);
     free(block);
 }

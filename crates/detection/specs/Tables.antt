@@ -5,11 +5,11 @@ use mathlib.Core.Bool.{Bool, true, false, not, cond, _&&_}
 use mathlib.Core.List.{List, [], _∷_}
 use Prim.Native.Nat.{ℕ, _+_, _*_, _/_, _%_, _^_, _≤_}
 use lib.Bits.{bitOr}
-use lib.Dec.{eqb}
+use lib.Dec.{eqb, leb, ltb}
 use lib.ListN.{length, getD, set, take, drop, replicate}
 use Rattle.numbers.specs.Tests.{every}
 use Rattle.calendar.specs.Calendar.{monthOf}
-use Rattle.rules.specs.Entry.{Record, key, isCancelled, bilateral, partyOk, lastParty, partyPlaces}
+use Rattle.rules.specs.Entry.{Record, key, isCancelled, bilateral, partyOk, lastParty, partyPlaces, lastDay}
 use Rattle.rules.specs.Words.{entries, coefficientOf, toleranceOf}
 use Rattle.rules.specs.Balance.{dayAhead, balanceOf, isDetected, sumCount, sumPlace}
 use Rattle.rules.specs.Control.{Parties, detectedIn, isRepeatedBuyer}
@@ -17,6 +17,7 @@ use Rattle.cells.specs.Cells.{Cells, oneIf, over, blank, filled}
 use Rattle.tally.specs.Scan.{counts}
 use Rattle.tally.specs.Bounded.{Bounded}
 use Rattle.rules.specs.declared.Tally.{Tally}
+use Rattle.detection.specs.declared.pairs.Period.{Period}
 
 -- the parties whose flag is set
 abbrev pub flagged : List Bool → Parties
@@ -69,6 +70,10 @@ pub record Flaggable (cells : List ℕ) (R TM : ℕ) (flags : List Bool) : Type 
   pub long : length cells ≡ tableCells
   pub bounded : (p : ℕ) → 1 ≤ p → p ≤ lastParty → Bounded (tallyAt cells p) (getD cells (boughtCell p) 0) R TM
   pub none : flags ≡ noFlags
+
+-- the days of the month of a day are those from the first to the next
+pub record IsPeriod (d : ℕ) (p : Period) : Type 0 where
+  pub same : (e : ℕ) → e ≤ lastDay → leb (p .first) e && ltb e (p .next) ≡ eqb (monthOf e) (monthOf d)
 
 -- a cancelled entry of another day of the month
 unfoldable pub isOther : ℕ → Record → Bool

@@ -1,36 +1,50 @@
 // Internal: the buyers of repeated pairs, by two scans of a checked book. A caller meets each `requires`.
 ghost use mathlib.Core.Path.{_≡_};
 ghost use mathlib.Core.Bool.{true};
-ghost use Rattle.calendar.specs.Calendar.{monthOf};
 ghost use Rattle.rules.specs.Entry.{legal, recordIn};
 ghost use Rattle.rules.specs.Words.{isBook, entries};
 ghost use Rattle.rules.specs.Control.{isRepeatedBuyer};
 ghost use Rattle.cells.specs.Cells.{blank};
-ghost use Rattle.detection.specs.Tables.{flagged, noFlags, tableCells, isOther, Paired, pairOf, pairMarked, pairsOf, buyerMarked, buyersOf};
+ghost use Rattle.detection.specs.Tables.{flagged, noFlags, tableCells, IsPeriod, isOther, Paired, pairOf, pairMarked, pairsOf, buyerMarked, buyersOf};
 use crate::bits;
 use crate::sums::Flags;
 use crate::sums::Table;
+use calendar::rule;
 use rules::Entry;
 use rules::layout::CANCELLED;
 use rules::layout::ENTRY_WORDS;
 use rules::layout::HEAD_WORDS;
 
-// The billing period of a day.
-fn period_of(day: u32) -> u32
-    ensures { λ r. ⌜ r ≡ monthOf day ⌝ }
+// The days of a billing period: its first, and the first of the next.
+struct Period {
+    first: u64,
+    next: u64,
+}
+
+// The billing period of a day, by steps from the month that it would have if each had 31 days. It needs no table of
+// months on the stack.
+fn period_of(day: u32) -> Period
+    ensures { λ r. ⌜ IsPeriod day r ⌝ }
 {
-    calendar::month_of(day)
+    let mut month = day / 31;
+    while rule::month_start(month + 1) <= day as u64 {
+        month += 1;
+    }
+    Period {
+        first: rule::month_start(month),
+        next: rule::month_start(month + 1),
+    }
 }
 
 // A cancelled entry of another day of the same billing period.
-fn is_other(e: Entry, day: u32, period: u32) -> bool
-    requires { ⌜ period ≡ monthOf day ⌝ }
+fn is_other(e: Entry, day: u32, period: Period) -> bool
+    requires { ⌜ IsPeriod day period ⌝ }
+    requires { ⌜ legal (recordIn e) ≡ true ⌝ }
     ensures { λ r. ⌜ r ≡ isOther day (recordIn e) ⌝ }
 {
-    if !((e.status == CANCELLED) & !(e.key.day == day)) {
-        return false;
-    }
-    period_of(e.key.day) == period
+    (e.status == CANCELLED)
+        & !(e.key.day == day)
+        & ((period.first <= e.key.day as u64) & ((e.key.day as u64) < period.next))
 }
 
 // The bit of an entry's pair: 1,024 bits a seller, one a buyer.
@@ -41,8 +55,8 @@ fn pair_of(e: Entry) -> usize
     (1024 * e.key.party + e.key.counterparty) as usize
 }
 
-fn mark_pair(pairs: &mut Table, e: Entry, day: u32, period: u32)
-    requires { ⌜ period ≡ monthOf day ⌝ }
+fn mark_pair(pairs: &mut Table, e: Entry, day: u32, period: Period)
+    requires { ⌜ IsPeriod day period ⌝ }
     requires { ⌜ legal (recordIn e) ≡ true ⌝ }
     ensures { λ _. ⌜ now (pairs .exit) ≡ pairMarked day (recordIn e) (now (pairs .entry)) ⌝ }
 {

@@ -1,18 +1,18 @@
 -- `detection::pairs::is_other` meets its contract. Assumes nothing.
 use Rattle.rules.specs.Entry.{recordIn}
-use Rattle.detection.proofs.PairLaws.{other-not, other-by-month}
+use Rattle.detection.proofs.PairLaws.{other-by-days}
 use borrow.Author.Needs.{needs}
 use Rattle.detection.proofs.pairs.is_other.Statement.{statement}
 use Rattle.detection.proofs.pairs.is_other.Tie as tie
 
+cast-result : tie.Need-cast-result
+cast-result c = search needs
+
+cast-result-2 : tie.Need-cast-result-2
+cast-result-2 c = search needs
+
 returns : tie.Need-returns
-returns c = let a = c .before .before .before .args in other-not (a .day) (recordIn (a .e)) (c .if1 .taken)
-
-period-of-requires : tie.Need-period-of-requires
-period-of-requires c κs = search needs
-
-returns-2 : tie.Need-returns-2
-returns-2 c = let s = c .before .before .before .before in other-by-month (s .args .day) (recordIn (s .args .e)) (s .pre) (c .before .if1 .left) (c .period-of .ensures)
+returns c = let s = c .before .before .before .before .before .before in other-by-days (s .args .day) (recordIn (s .args .e)) (s .args .period) (s .pre .0) (s .pre .1)
 
 pub is-other-spec : {M : Type 1} → statement M
-is-other-spec = tie.close (tie.spec returns period-of-requires returns-2)
+is-other-spec = tie.close (tie.spec cast-result cast-result-2 returns)

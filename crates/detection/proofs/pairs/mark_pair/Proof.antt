@@ -17,7 +17,7 @@ pair c =
     paired (recordIn (s .args .e)) (s .pre .1) (other-cancelled (s .args .day) (recordIn (s .args .e)) (yes c))
 
 is-other-requires : tie.Need-is-other-requires
-is-other-requires c κs = c .pre .0
+is-other-requires c κs = search needs
 
 pair-of-requires : tie.Need-pair-of-requires
 pair-of-requires c κs = pair c
