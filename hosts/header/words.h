@@ -1,4 +1,5 @@
-/* The calls on words, until fanzsoreb.h declares them: the same prototypes, so that both may stand. */
+/* The calls on words and the stack sizes, until fanzsoreb.h has them: the same prototypes, so that both may stand, and
+ * sizes that give way to the header's. */
 #ifndef WORDS_H
 #define WORDS_H
 
@@ -30,6 +31,18 @@ fanzsoreb_collateral_answer fanzsoreb_collateral_words(
 
 #ifdef __cplusplus
 }
+#endif
+
+/* Of a thread that makes such a call and no deeper one of its own, in bytes */
+#ifndef FANZSOREB_STACK_WORDS
+#define FANZSOREB_STACK_FIGURES 16384         /* version, detected, ceiling, first_day */
+#define FANZSOREB_STACK_WORDS 16384           /* on a book's words, but for a file or control; the month on words */
+#define FANZSOREB_STACK_FILE_WORDS 49152      /* a file into a book's words */
+#define FANZSOREB_STACK_CONTROL_WORDS 294912  /* control on a book's words */
+#define FANZSOREB_STACK_BOOK 81920            /* on a book's bytes, but for a file or control */
+#define FANZSOREB_STACK_FILE 114688           /* a file into a book's bytes */
+#define FANZSOREB_STACK_CONTROL 356352        /* control on a book's bytes */
+#define FANZSOREB_STACK_MONTH 212992          /* the month on bytes */
 #endif
 
 #endif

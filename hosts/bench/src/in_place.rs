@@ -51,14 +51,15 @@ fn fault(party: u32, day: u32, kind: u32, counterparty: u32, amount: u64) -> u32
     if kind < 1 || kind > 22 || kind == MARK {
         return 5;
     }
-    if if kind == BILATERAL {
-        counterparty > 999 || counterparty == party
-    } else {
-        counterparty != 0
-    } {
+    let known = match kind {
+        BILATERAL => counterparty <= 999 && counterparty != party,
+        _ => counterparty == 0,
+    };
+    if !known {
         return 6;
     }
-    if amount > if (17..=20).contains(&kind) { 10_000_000_000_000 } else { 1_000_000_000 } {
+    let most = if (17..=20).contains(&kind) { 10_000_000_000_000 } else { 1_000_000_000 };
+    if amount > most {
         return 7;
     }
     0
