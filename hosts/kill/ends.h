@@ -1,5 +1,5 @@
-/* A child that makes one call after the other on a book in a mapped file, ended by SIGKILL at any time; the file is then
- * mapped anew and read. */
+/* A child that makes one call after the other on a book in a mapped file, ended by SIGKILL at any time. The file is
+ * then mapped anew and read. */
 #include <sys/wait.h>
 #include <time.h>
 
