@@ -4,7 +4,7 @@ import pathlib
 import re
 import sys
 
-TYPES = {"u8": "uint8_t", "u32": "uint32_t", "u64": "uint64_t", "i64": "int64_t"}
+TYPES = {"u8": "uint8_t", "u32": "uint32_t", "u64": "uint64_t", "i32": "int32_t", "i64": "int64_t"}
 STRUCTS = {
     "Posted": "posted", "Counted": "counted", "EntryRead": "entry_read", "BalanceAnswer": "balance", "Tally": "sums",
     "TallyAnswer": "tally_answer", "Month": "month_figures", "MonthAnswer": "month_answer",
@@ -18,13 +18,14 @@ def c_type(rattle):
     return TYPES.get(rattle) or "fanzsoreb_" + STRUCTS[rattle]
 
 
-# a lent slice is a pointer and a length; the length of a book has no further name
+# a lent slice is a pointer and a length; that of a book is its length in bytes or its words
 def c_parameter(text):
     name, rattle = text.strip().split(": ")
-    if rattle not in ("&[u8]", "&mut [u8]"):
+    slice_of = re.fullmatch(r"&(mut )?\[(\w+)\]", rattle)
+    if not slice_of:
         return c_type(rattle) + " " + name
-    const = "const " if rattle == "&[u8]" else ""
-    return const + "uint8_t *" + name + ", size_t " + ("length" if name == "book" else name + "_length")
+    length = name + "_length" if name != "book" else "length" if slice_of[2] == "u8" else "words"
+    return ("" if slice_of[1] else "const ") + c_type(slice_of[2]) + " *" + name + ", size_t " + length
 
 
 def c_field(text):

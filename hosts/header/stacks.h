@@ -204,7 +204,7 @@ static size_t used_by(const need *n, uint8_t *stack)
     return STACK - free_bytes;
 }
 
-/* A stack of just this size, and below it memory that may not be touched, more than a call can leap over. The thread is
+/* A stack of just this size, and below it memory that may not be touched, more than a call's largest frame. The thread is
  * in a process of its own, which a call that needs more ends. */
 static int fits(const need *n, size_t size)
 {

@@ -98,18 +98,22 @@ static void step_fresh(const way *w, int fill)
     step(w, t);
 }
 
-/* From 255 to 256 entries two bytes of their number change. */
+/* From 255 to 256 entries two bytes of their number change. A call on the bytes of a large book may store thousands of
+ * words, which takes long: one size of them at each address. */
 static void step_ways(void)
 {
-    static const uint32_t sizes[] = { 0, 1, 25, 100, 255, 768 };
+    static const uint32_t sizes[] = { 0, 1, 25, 100, 255 };
     size_t i, k;
     for (k = 0; k < WAYS; k++) {
-        for (i = 0; i < 6; i++) {
+        for (i = 0; i < 5; i++) {
             step_all(&ways[k], sizes[i], 12 + 20 * (sizes[i] + 9), 9);
             step_all(&ways[k], sizes[i], FANZSOREB_BOOK_BYTES, 4);
         }
-        step_all(&ways[k], 200, FANZSOREB_BOOK_BYTES, 400);
-        step_all(&ways[k], FANZSOREB_MOST_ENTRIES - 1, FANZSOREB_BOOK_BYTES, 1);
+        step_all(&ways[k], 200, FANZSOREB_BOOK_BYTES, LINES);
+        if (ways[k].offset != 0)
+            step_all(&ways[k], 768, FANZSOREB_BOOK_BYTES, 4);
+        else
+            step_all(&ways[k], FANZSOREB_MOST_ENTRIES - 1, FANZSOREB_BOOK_BYTES, 1);
         step_fresh(&ways[k], 0);
         step_fresh(&ways[k], 0xEE);
     }

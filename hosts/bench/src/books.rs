@@ -77,7 +77,7 @@ fn file(d: &mut Draw, mut lines: usize) -> Vec<u8> {
     words.iter().flat_map(|word| word.to_le_bytes()).collect()
 }
 
-// How many books a row is measured on: small ones are more, so that the processor does not learn their entries by heart.
+// How many books a row is measured on: more of small ones, so that the processor does not predict their every branch.
 fn books_of(size: usize) -> usize {
     (12_800 / size.max(1)).clamp(32, 256)
 }
