@@ -36,13 +36,13 @@ struct Books {
 }
 
 impl Books {
-    // Calls that change nothing can be made again.
-    fn read(size: usize) -> Books {
-        Books { size, drawn: books::books(size), changed: 0, turns: if size == 0 { 8 } else { 1 } }
-    }
-
     fn written(size: usize, drawn: Vec<Drawn>) -> Books {
         Books { size, drawn, changed: FULL.min(3 + 5 * (size + 1)), turns: 1 }
+    }
+
+    // A call that changes nothing can be made again.
+    fn read(size: usize) -> Books {
+        Books { turns: if size == 0 { 8 } else { 1 }, ..Books::written(size, books::books(size)) }
     }
 
     fn lent(&self) -> Vec<Vec<u32>> {
@@ -54,7 +54,7 @@ impl Books {
         self.drawn.iter().map(full).collect()
     }
 
-    // A round on books as drawn: what was changed is put back outside the time.
+    // A round on books as drawn: what a call may change is put back outside the time, and so is in the cache.
     fn round<R: Clone + Default>(
         &self,
         lent: &mut [Vec<u32>],

@@ -4,7 +4,7 @@ use std::time::{Duration, Instant};
 
 // At least so long for each side, and at least so many rounds.
 const TIME: Duration = Duration::from_millis(40);
-const ROUNDS: usize = 40;
+const ROUNDS: usize = 64;
 
 fn nanoseconds(began: Instant) -> f64 {
     began.elapsed().as_nanos() as f64
@@ -32,6 +32,16 @@ pub fn round<R: Clone + Default>(
     ((nanoseconds(began) - timer) / (n * turns) as f64, answers)
 }
 
+// A round so many frames further down: where the stack lies is drawn by the system for each run, and a short call may
+// take twice as long at one place as at another.
+fn further_down(frames: usize, round: &mut dyn FnMut() -> f64) -> f64 {
+    let _frame = black_box([0u8; 48]);
+    match frames {
+        0 => round(),
+        _ => black_box(further_down(frames - 1, round)),
+    }
+}
+
 pub type Side<'a, S, R> = &'a dyn Fn(&mut S) -> (f64, Vec<R>);
 
 // The shortest time of each side. Before that they are compared: the answers, and what the calls leave.
@@ -48,7 +58,7 @@ pub fn shortest<S: Clone + PartialEq, R: PartialEq, const N: usize>(
     let (mut best, mut rounds, began) = ([f64::INFINITY; N], 0, Instant::now());
     while rounds < ROUNDS || began.elapsed() < TIME * N as u32 {
         for (best, side) in best.iter_mut().zip(sides) {
-            *best = best.min(side(lent).0);
+            *best = best.min(further_down(rounds % ROUNDS, &mut || side(lent).0));
         }
         rounds += 1;
     }
