@@ -3,16 +3,16 @@ use mathlib.Core.Path.{_≡_, refl, sym, ap, ap₂, _∙_, fun-ext}
 use mathlib.Core.Logic.{inl, inr}
 use mathlib.Core.Bool.{Bool, true, false, not, _&&_, _||_, false≢true}
 use mathlib.Core.List.{List, [], _∷_}
-use Prim.Native.Nat.{ℕ, zero, suc, _+_, _*_, _≤_, _<_}
+use Prim.Native.Nat.{ℕ, suc, _+_, _≤_, _<_}
 use native.Mathlib.Numerals.{add-one}
 use native.Mathlib.Omega.{arith}
 use lib.Dec.{eqb, leb, ltb}
 use lib.ListN.{length, length-replicate}
-use borrow.Author.Tests.{eqb-true, eq-eqb, ne-eqb, leb-true, ltb-true, le-leb, lt-leb, lt-ltb, not-true, not-false}
+use borrow.Author.Tests.{eqb-true, eq-eqb, ne-eqb, leb-true, ltb-true, le-leb, lt-ltb, not-true, not-false}
 use Rattle.numbers.specs.Tests.{every, all, any}
 use Rattle.numbers.proofs.TestLaws.{bool-cases, below-or-above, and-split, and-join, or-cases, every-holds}
 use Rattle.calendar.specs.Calendar.{months, monthOf, monthStart}
-use Rattle.calendar.proofs.MonthLaws.{month-length, start-zero, start-step, start-mono, start-end, InMonth, month-unique, month-past, month-holds}
+use Rattle.calendar.proofs.MonthLaws.{start-mono, start-end, InMonth, month-unique, month-past, month-holds}
 use Rattle.rules.specs.Entry.{Record, key, legal, fault, statusOk, markOk, isCancelled, isStanding, isMark, isBilateral, dayOk, lastDay}
 use Rattle.rules.specs.Control.{isEarlierOrLater, isRepeatedBuyer}
 use Rattle.rules.proofs.WordLaws.{no-fault, legal-bounds}
@@ -53,37 +53,30 @@ pub other-cancelled : (d : ℕ) (r : Record) → isOther d r ≡ true → isCanc
 unfolding isOther
 other-cancelled d r e = every-holds (isCancelled r ∷ not (eqb (key r .day) d) ∷ eqb (monthOf (key r .day)) (monthOf d) ∷ []) e .0
 
--- months have 28 to 31 days
-pub start-between : (m : ℕ) → (28 * m ≤ monthStart m) × (monthStart m ≤ 31 * m)
-start-between zero = omega (arith, start-zero)
-start-between (suc m) = omega (arith, start-step m, month-length m, start-between m)
+-- the days of a month, by its first and the first of the next
+month-days : (m e : ℕ) → e ≤ lastDay → leb (monthStart m) e && ltb e (monthStart (m + 1)) ≡ eqb (monthOf e) m
+month-days m e h = same-test inside (λ t. let q : m ≡ monthOf e = sym (eqb-true _ _ t) in rw (q, le-leb _ _ (i .from), add-one (monthOf e), lt-ltb _ _ (i .until)))
+  where
+    i : InMonth e (monthOf e)
+    i = month-holds e (omega arith)
 
-pub start-later : (m : ℕ) → monthStart m < monthStart (m + 1)
-start-later m = rw (add-one m) (omega (arith, start-step m, month-length m))
+    inside : leb (monthStart m) e && ltb e (monthStart (m + 1)) ≡ true → eqb (monthOf e) m ≡ true
+    inside t =
+        let s = and-split _ _ t in
+        let from = leb-true (monthStart m) e (s .0) in
+        let until : e < monthStart (suc m) = rw add-one at (ltb-true e (monthStart (m + 1)) (s .1)) in
+        elim (below-or-above m months) [
+          | inl b ↦ eq-eqb _ _ (month-unique m e b from until)
+          | inr b ↦ absurd (omega (arith, start-mono months m b, start-end))
+        ]
 
--- the month that a day lies in, also one past the table
-module _ (m d : ℕ) (from : monthStart m ≤ d) (until : d < monthStart (m + 1)) where
-  month-days : (e : ℕ) → e ≤ lastDay → leb (monthStart m) e && ltb e (monthStart (m + 1)) ≡ eqb (monthOf e) (monthOf d)
-  month-days e h =
-      elim (below-or-above m months) [
-        | inl b ↦
-            let k : monthOf d ≡ m = in-month b d from until in
-            same-test
-            (λ t. let s = and-split _ _ t in eq-eqb _ _ (in-month b e (leb-true _ _ (s .0)) (ltb-true _ _ (s .1)) ∙ sym k))
-            (λ t. let q : m ≡ monthOf e = sym (eqb-true _ _ t ∙ k) in rw (q, le-leb _ _ (i .from), add-one (monthOf e), lt-ltb _ _ (i .until)))
-        | inr b ↦
-            let late = start-mono months m b in
-            rw (lt-leb (monthStart m) e (omega (arith, start-end)), month-past d (omega (arith, start-end)), ne-eqb (monthOf e) months (λ q. omega (arith, i .below)))
-      ]
-    where
-      i : InMonth e (monthOf e)
-      i = month-holds e (omega arith)
+pub period-found : (d : ℕ) {m f n : ℕ} → m ≡ monthOf d → f ≡ monthStart m → n ≡ monthStart (m + 1) → IsPeriod d (record { first = f; next = n })
+period-found d {m} k p q = record { same = λ e h. rw (p, q, ← k) (month-days m e h) }
 
-      in-month : m < months → (x : ℕ) → monthStart m ≤ x → x < monthStart (m + 1) → monthOf x ≡ m
-      in-month b x low high = month-unique m x b low (rw add-one at high)
-
-  pub period-found : {f n : ℕ} → f ≡ monthStart m → n ≡ monthStart (m + 1) → IsPeriod d (record { first = f; next = n })
-  period-found p q = record { same = λ e h. rw (p, q) (month-days e h) }
+-- the last month of the table, or the one after it
+pub month-most : (d : ℕ) → monthOf d ≤ months
+month-most d =
+    elim (below-or-above d 36525) [ inl b ↦ omega (arith, month-holds d b .below) | inr b ↦ omega (arith, month-past d b) ]
 
 pub other-by-days : (d : ℕ) (r : Record) (p : Period) → IsPeriod d p → legal r ≡ true →
     isCancelled r && not (eqb (key r .day) d) && (leb (p .first) (key r .day) && ltb (key r .day) (p .next)) ≡ isOther d r

@@ -1,6 +1,7 @@
 // Internal: the buyers of repeated pairs, by two scans of a checked book. A caller meets each `requires`.
 ghost use mathlib.Core.Path.{_≡_};
 ghost use mathlib.Core.Bool.{true};
+ghost use Rattle.calendar.specs.Calendar.{monthOf};
 ghost use Rattle.rules.specs.Entry.{legal, recordIn};
 ghost use Rattle.rules.specs.Words.{isBook, entries};
 ghost use Rattle.rules.specs.Control.{isRepeatedBuyer};
@@ -21,15 +22,18 @@ struct Period {
     next: u64,
 }
 
-// The billing period of a day, by steps from the month that it would have if each had 31 days. It needs no table of
-// months on the stack.
+// The month of a day, by the table of months.
+fn month_at(day: u32) -> u32
+    ensures { λ r. ⌜ r ≡ monthOf day ⌝ }
+{
+    calendar::month_of(day)
+}
+
+// The billing period of a day. The table is searched once, not for each entry.
 fn period_of(day: u32) -> Period
     ensures { λ r. ⌜ IsPeriod day r ⌝ }
 {
-    let mut month = day / 31;
-    while rule::month_start(month + 1) <= day as u64 {
-        month += 1;
-    }
+    let month = month_at(day);
     Period {
         first: rule::month_start(month),
         next: rule::month_start(month + 1),
