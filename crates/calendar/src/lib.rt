@@ -5,7 +5,7 @@ ghost use Rattle.calendar.specs.Calendar.{monthOf};
 pub mod rule;
 
 // The first day of each month from January 2000, and the day after the last month.
-const MONTH_STARTS: [u32; 1201] = [
+const MONTH_STARTS: [u16; 1201] = [
     0,
     31,
     60,
@@ -1222,7 +1222,7 @@ pub fn month_of(day: u32) -> u32
     let mut high: usize = 1200;
     while low + 1 < high {
         let middle = (low + high) / 2;
-        if starts[middle] <= day {
+        if starts[middle] as u32 <= day {
             low = middle;
         } else {
             high = middle;

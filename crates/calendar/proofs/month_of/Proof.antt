@@ -5,7 +5,7 @@ use Prim.Native.Nat.{ℕ, suc, _+_, _-_, _/_, _≤_, _<_}
 use native.Mathlib.Omega.{arith}
 use lib.ListN.{getD}
 use Rattle.calendar.specs.Calendar.{months, monthStart}
-use Rattle.calendar.proofs.MonthLaws.{start-zero, start-end, month-unique, month-past}
+use Rattle.calendar.proofs.MonthLaws.{start-zero, start-mono, start-end, month-unique, month-past}
 use Rattle.calendar.proofs.MonthTable.{table, table-at}
 use Rattle.calendar.proofs.month_of.Statement.{statement}
 use Rattle.calendar.proofs.month_of.Tie as tie
@@ -16,6 +16,9 @@ entry-from k day h l = omega (arith, table-at k h)
 
 entry-past : (k day : ℕ) → k ≤ months → day < getD table k 0 → day < monthStart k
 entry-past k day h l = omega (arith, table-at k h)
+
+entry-fits : (k : ℕ) → k ≤ months → getD table k 0 < 4294967296
+entry-fits k h = omega (arith, table-at k h, start-mono k months h, start-end)
 
 abbrev Inv-loop : tie.InvT-loop
 Inv-loop day starts low₀ high₀ low high = (low < high) × (high ≤ months) × (monthStart low ≤ day) × (day < monthStart high)
@@ -40,6 +43,12 @@ mul-if2 c = omega arith
 
 element-copy-out-if2 : tie.Need-element-copy-out-if2 Inv-loop μ-loop
 element-copy-out-if2 c = omega arith
+
+cast-if2 : tie.Need-cast-if2 Inv-loop μ-loop
+unfolding table
+cast-if2 c =
+    let l = c .before .before .loop in
+    record { fits = entry-fits ((l .low + l .high) / 2) (omega arith) }
 
 loop-less : tie.Need-loop-less Inv-loop μ-loop
 loop-less c = omega arith
@@ -77,6 +86,7 @@ month-of-spec =
     add-middle
     mul-if2
     element-copy-out-if2
+    cast-if2
     loop-less
     loop-again
     loop-less-2
