@@ -10,32 +10,53 @@
  * Units. Volumes are in kWh, money in kurus, prices in kurus per MWh, balances in hundredths of a kWh, signed. A day
  * is a number: 0 is 2000-01-01, 36,524 is 2099-12-31. Parties are 1 to 999.
  *
- * A book is memory that the host lends: 32-bit words as bytes, little-endian. A word's top four bits are its kind.
- *   byte 0           kind 6, number of entries
- *   byte 4           kind 7, coefficient R in hundredths, 0 to 1,000
- *   byte 8           kind 8, tolerance amount TM in kWh, 0 to 200,000,000
- *   byte 12 + 20 n   entry n, five words: kind 1, party; kind 2, day; kind 3, type in bits 0-7, counterparty in bits
+ * A book is memory that the host lends: 32-bit words, little-endian. A word's top four bits are its kind.
+ *   word 0           kind 6, number of entries
+ *   word 1           kind 7, coefficient R in hundredths, 0 to 1,000
+ *   word 2           kind 8, tolerance amount TM in kWh, 0 to 200,000,000
+ *   word 3 + 5 n     entry n, five words: kind 1, party; kind 2, day; kind 3, type in bits 0-7, counterparty in bits
  *                    8-23, status in bits 24-25; kind 4, the amount's low 28 bits; kind 5, its next 16 bits
- * It has room for (length - 12) / 20 entries, rounded down, and for 3,072 at most, which is 61,452 bytes. The bytes
- * after its last entry may have any values, no answer depends on them; those after the first 61,452 are not read or
- * written. A length that is no multiple of 4 is no book: fanzsoreb_is_book gives 0, every other call on a book
- * answers 1. (Of a day file it answers 2, of a month's tables 11.)
+ * It has room for (words - 3) / 5 entries, rounded down, and for 3,072 at most, which is 15,363 words or 61,452 bytes.
+ * The words after its last entry may have any values, no answer depends on them; those after the first 15,363 are not
+ * read or written.
  *
- * Memory. A pointer leads to as many bytes as its length says, which the call may read and, where it is not const,
- * write. Any address will do: nothing is aligned. A null pointer is for length 0 only. The bytes have been given
- * values before, whichever they are: fill fresh memory once (calloc, memset) before you open a book in it. A book
- * lent to be written overlaps nothing else that the same call is lent, such as the day file read into it; slices that
- * are only read may overlap or be the same. No other memory of the host is read or written; nothing is kept between
- * calls and nothing is allocated.
+ * Words or bytes. Each call on a book, and the month step, is there three times:
+ *   fanzsoreb_X_words  on words, in place: nothing is copied, and just the stated words are stored. This is the one to
+ *                      use: a book in memory that is aligned to 4 bytes, its length in words.
+ *   fanzsoreb_X        on bytes at any address: nothing is aligned, the length is in bytes. The words of the entries are
+ *                      copied, and where the call is done copied back. A length that is no multiple of 4 is no book:
+ *                      fanzsoreb_is_book gives 0, every other call on a book answers 1. (Of a day file it answers 2, of
+ *                      a month's tables 11.)
+ *   fanzsoreb_X_any    on bytes, by the first where the address and the length allow it, else by the second.
+ * On the same book all three give the same answer and leave the same bytes.
+ *
+ * Memory. A pointer leads to as many words or bytes as its length says, which the call may read and, where it is not
+ * const, write. One to words is aligned to 4 bytes; one to bytes need not be. A null pointer is for length 0 only. The
+ * memory has been given values before, whichever they are: fill fresh memory once (calloc, memset) before you open a
+ * book in it. A book lent to be written overlaps nothing else that the same call is lent, such as the day file read into
+ * it; slices that are only read may overlap or be the same. No other memory of the host is read or written; nothing is
+ * kept between calls and nothing is allocated.
  *
  * Threads. Calls that take a const book may run on one book at the same time. A call that takes a book that is not
- * const needs it alone until it returns, whatever its answer: where it is done it may store any of the book's first
- * 61,452 bytes, though all but the stated ones get the values they had. Calls on different books may run at the same
+ * const needs it alone until it returns, whatever its answer: on bytes, where it is done, it may store any byte up to
+ * the last entry's, though all but the stated ones get the values they had. Calls on different books may run at the same
  * time.
  *
- * Stack. A call on a book needs 64 KiB, for the book's words; reading a day file 100 KiB, for a flag a day too;
- * control 340 KiB, for 18 sums a party and a bit a pair; the month step 200 KiB, for its tables. All others need less
- * than 1 KiB.
+ * A host that is killed. Books may stand in mapped files. A call stores first what lies beyond the last entry, then what
+ * lies before it, and last, by a store of its own, the word with the number of entries. So a process that is ended in the
+ * middle of a call, at any moment, leaves of
+ *   a post, a day file   the book as it was, or with the entry or with all lines of the file
+ *   a withdrawal         the entry standing or withdrawn
+ *   an opening           what was there, in which R and TM may already be the new ones, or the opened book. Over an
+ *                        earlier book with entries: while these are still there it is not opened, open it again
+ *   a control            a book in which some of the sales to be cancelled are, without the day's mark. To have all of
+ *                        a control or nothing, run it on a copy of the book (61,452 bytes) and swap the two, for
+ *                        instance by renaming the file
+ * This is about a process that is ended, not about a machine that loses power.
+ *
+ * Stack. FANZSOREB_STACK_... below are sizes of a thread's whole stack that are enough for a call, measured on the
+ * largest books and tables. A call on a book's bytes takes stack by the number of entries, or by the length where that
+ * is less: up to 25 entries some 4 KiB, up to 127 some 7, up to 768 some 20, above that some 66.
  */
 #ifndef FANZSOREB_H
 #define FANZSOREB_H
@@ -47,14 +68,25 @@
 extern "C" {
 #endif
 
-/* 2.0.0: major x 10,000 + minor x 100 + patch. A changed struct or signature raises the major number, a new call the
+/* 2.1.0: major x 10,000 + minor x 100 + patch. A changed struct or signature raises the major number, a new call the
  * minor one, any other change the patch. */
-#define FANZSOREB_VERSION 20000
+#define FANZSOREB_VERSION 20100
 
 #define FANZSOREB_MOST_ENTRIES 3072      /* of a book */
-#define FANZSOREB_BOOK_BYTES 61452       /* of a book with room for as many, 12 + 20 x 3,072 */
+#define FANZSOREB_BOOK_WORDS 15363       /* of a book with room for as many, 3 + 5 x 3,072 */
+#define FANZSOREB_BOOK_BYTES 61452       /* the same in bytes */
 #define FANZSOREB_MOST_FILE_BYTES 65536  /* of a day file */
 #define FANZSOREB_HORIZON_MONTHS 4800    /* of fanzsoreb_first_day: January 2000 to December 2399 */
+
+/* Sizes of a thread's whole stack, in bytes, each enough for the calls named; new in version 2.1.0. */
+#define FANZSOREB_STACK_FIGURES 16384         /* version, detected, ceiling, first_day */
+#define FANZSOREB_STACK_WORDS 16384           /* on a book's words, but for a file or control; the month on words */
+#define FANZSOREB_STACK_FILE_WORDS 49152      /* a file into a book's words */
+#define FANZSOREB_STACK_CONTROL_WORDS 163840  /* control on a book's words */
+#define FANZSOREB_STACK_BOOK 81920            /* on a book's bytes, but for a file or control */
+#define FANZSOREB_STACK_FILE 114688           /* a file into a book's bytes */
+#define FANZSOREB_STACK_CONTROL 229376        /* control on a book's bytes */
+#define FANZSOREB_STACK_MONTH 24576           /* the month on bytes */
 
 /* Why a call comes back. */
 enum fanzsoreb_cause {
@@ -72,7 +104,7 @@ enum fanzsoreb_cause {
                                        counterparty above 0, of a day that was controlled */
     FANZSOREB_NO_ROOM = 9,          /* no entry free */
     FANZSOREB_NO_ENTRY = 10,        /* no entry of this number; withdrawal of a mark or of one that does not stand */
-    FANZSOREB_BAD_LENGTH = 11,      /* opening below 12 bytes; month tables over 745 hours, or lengths that do not
+    FANZSOREB_BAD_LENGTH = 11,      /* opening below 3 words; month tables over 745 hours, or lengths that do not
                                        agree */
     FANZSOREB_BAD_FIGURE = 12       /* another figure outside its range */
 };
@@ -147,49 +179,60 @@ typedef struct {
 /* The version of the library: FANZSOREB_VERSION of the header that belongs to it. */
 uint32_t fanzsoreb_version(void);
 
-/* 1 if the bytes are a book, else 0. Changes nothing. */
+/* 1 if the words are a book, else 0. Changes nothing. */
+uint32_t fanzsoreb_is_book_words(const uint32_t *book, size_t words);
 uint32_t fanzsoreb_is_book(const uint8_t *book, size_t length);
 
-/* Opens a book with no entries in bytes of any values: coefficient R in hundredths, 0 to 1,000; tolerance amount TM
- * in kWh, 0 to 200,000,000. Changes the first 12 bytes. Causes: 1 (a length that is no multiple of 4), 11 (a length
- * below 12), 12 (R or TM outside its range). */
+/* Opens a book with no entries in words of any values: coefficient R in hundredths, 0 to 1,000; tolerance amount TM
+ * in kWh, 0 to 200,000,000. Changes the first three words. Causes: 11 (less than three words), 12 (R or TM outside its
+ * range); on bytes first 1 (a length that is no multiple of 4). */
+uint32_t fanzsoreb_open_words(uint32_t *book, size_t words, uint32_t coefficient, uint32_t tolerance);
 uint32_t fanzsoreb_open(uint8_t *book, size_t length, uint32_t coefficient, uint32_t tolerance);
 
-/* The same with R 105 and TM 500,000. Changes the first 12 bytes. Causes: 1, 11. Before version 1.0.1 these were 110
- * and 600,000: a host that relied on them names them, fanzsoreb_open(book, length, 110, 600000). A book keeps the R and
- * TM that it was opened with, whichever version reads it. */
+/* The same with R 105 and TM 500,000. Changes the first three words. Causes: 11; on bytes first 1. Before version 1.0.1
+ * these were 110 and 600,000: a host that relied on them names them, fanzsoreb_open_words(book, words, 110, 600000). A
+ * book keeps the R and TM that it was opened with, whichever version reads it. */
+uint32_t fanzsoreb_open_default_words(uint32_t *book, size_t words);
 uint32_t fanzsoreb_open_default(uint8_t *book, size_t length);
 
 /* Appends one standing entry; its number, counted from 0. Party 1 to 999; day 0 to 36,524; type 1 to 20, or 22;
  * counterparty 0 outside type 6, in type 6 0 to 999 and not the party; amount 0 to 10^9 kWh for types 1 to 16 and 22,
- * 0 to 10^13 kurus for 17 to 20. Changes the 20 bytes after the last entry, and the number of entries. Causes: 1, 3, 4,
+ * 0 to 10^13 kurus for 17 to 20. Changes the five words after the last entry, and the number of entries. Causes: 1, 3, 4,
  * 5, 6, 7, 8 (type 6, counterparty above 0, on a closed day), 9. Each call checks the whole book: for many lines read a
  * day file. */
+fanzsoreb_posted fanzsoreb_post_words(uint32_t *book, size_t words, uint32_t party, uint32_t day, uint32_t entry_type,
+                                      uint32_t counterparty, uint64_t amount);
 fanzsoreb_posted fanzsoreb_post(uint8_t *book, size_t length, uint32_t party, uint32_t day, uint32_t entry_type,
                                 uint32_t counterparty, uint64_t amount);
 
 /* Withdraws a standing entry by its number; its place is not used again. Changes the entry's status, to 1. Causes: 1,
  * 8 (a standing type 6, counterparty above 0, of a closed day), 10 (no such entry, a mark, or one that does not
  * stand). */
+uint32_t fanzsoreb_withdraw_words(uint32_t *book, size_t words, uint32_t number);
 uint32_t fanzsoreb_withdraw(uint8_t *book, size_t length, uint32_t number);
 
 /* The number of entries, of every status and marks too. Cause: 1. Changes nothing. */
+fanzsoreb_counted fanzsoreb_count_words(const uint32_t *book, size_t words);
 fanzsoreb_counted fanzsoreb_count(const uint8_t *book, size_t length);
 
 /* One entry by its number, of any status: its party, day, type, counterparty, status, and amount in kWh or kurus. A
  * mark has type 21 and a day, its other figures are 0. Causes: 1, 10 (number not below the number of entries).
  * Changes nothing. */
+fanzsoreb_entry_read fanzsoreb_entry_words(const uint32_t *book, size_t words, uint32_t number);
 fanzsoreb_entry_read fanzsoreb_entry(const uint8_t *book, size_t length, uint32_t number);
 
 /* A party's sums of a day over standing entries, in kWh: sums[k - 1] for volume type k of 1 to 16, sum 6 without
  * exports, and sums[16] for type 22; and B, what others sold to it by standing type 6. Party 1 to 999, day 0 to 36,524.
  * Causes: 1, 3, 4. Changes nothing. */
+fanzsoreb_tally_answer fanzsoreb_tally_words(const uint32_t *book, size_t words, uint32_t party, uint32_t day);
 fanzsoreb_tally_answer fanzsoreb_tally(const uint8_t *book, size_t length, uint32_t party, uint32_t day);
 
 /* The two unrequited volumes of a party's day, in hundredths of a kWh, within 30,720,000,000,000,000 either way: 100
  * times its sales, less the larger of 100 times TM and R times its cover. The generation program in its cover is sum 12
  * in the day-ahead balance, the larger of sums 12 and 22 in the delivery balance: an update below the program changes
  * neither. Party 1 to 999, day 0 to 36,524. Causes: 1, 3, 4. Change nothing. */
+fanzsoreb_balance fanzsoreb_day_ahead_words(const uint32_t *book, size_t words, uint32_t party, uint32_t day);
+fanzsoreb_balance fanzsoreb_delivery_words(const uint32_t *book, size_t words, uint32_t party, uint32_t day);
 fanzsoreb_balance fanzsoreb_day_ahead(const uint8_t *book, size_t length, uint32_t party, uint32_t day);
 fanzsoreb_balance fanzsoreb_delivery(const uint8_t *book, size_t length, uint32_t party, uint32_t day);
 
@@ -205,31 +248,37 @@ fanzsoreb_ceiling_answer fanzsoreb_ceiling(uint32_t offer, uint32_t bilateral, u
  * 36,524 is given by this call alone; every other one still refuses it by 4. Cause: 12. New in version 1.1.0. */
 fanzsoreb_first_day_answer fanzsoreb_first_day(uint32_t month);
 
-/* The month step, on three tables of 32-bit figures as bytes, little-endian, with lengths in bytes:
+/* The month step, on three tables of 32-bit figures:
  *   prices     one an hour, 0 to 1,000,000 kurus per MWh, for 0 to 745 hours
  *   imbalance  rows x hours, row after row, a row a group, each -10,000,000 to 10,000,000 kWh, negative is short
  *   dm         secondary control, one an hour, in the same range
- * rows is 1 to 64; group, the one asked, is below rows. AOSMF in kurus per MWh, 0 to 1,000,000: the average price of
- * all rows weighted by imbalance without its sign, halves up, 0 where there is no imbalance. AEDM in kWh, signed,
- * within 14,900,000,000 either way: imbalance less DM of the group asked. Causes: 11 (a length that is no multiple of
- * 4, more than 745 hours, an imbalance table of not rows x hours figures or a DM table of not one an hour), 12 (rows,
- * group or a figure outside its range). Changes nothing. */
+ * rows is 1 to 64; group, the one asked, is below rows. Lengths are in figures; on bytes, little-endian, in bytes. AOSMF
+ * in kurus per MWh, 0 to 1,000,000: the average price of all rows weighted by imbalance without its sign, halves up, 0
+ * where there is no imbalance. AEDM in kWh, signed, within 14,900,000,000 either way: imbalance less DM of the group
+ * asked. Causes: 11 (more than 745 hours, an imbalance table of not rows x hours figures or a DM table of not one an
+ * hour; on bytes also a length that is no multiple of 4), 12 (rows, group or a figure outside its range). Changes
+ * nothing. */
+fanzsoreb_month_answer fanzsoreb_month_words(const uint32_t *prices, size_t prices_length, const int32_t *imbalance,
+                                             size_t imbalance_length, uint32_t rows, const int32_t *dm,
+                                             size_t dm_length, uint32_t group);
 fanzsoreb_month_answer fanzsoreb_month(const uint8_t *prices, size_t prices_length,
                                        const uint8_t *imbalance, size_t imbalance_length, uint32_t rows,
                                        const uint8_t *dm, size_t dm_length, uint32_t group);
 
 /* Control of a day, 0 to 36,524: how many parties were detected in each pass, and how many entries were cancelled. It
  * goes by day-ahead balances, so an updated program does not count. Changes the status of the day's standing bilateral
- * sales that it cancels, to 2; the 20 bytes after the last entry, which become the day's mark; and the number of
+ * sales that it cancels, to 2; the five words after the last entry, which become the day's mark; and the number of
  * entries. From then on the day is closed. Causes: 1, 4, 8, 9. */
+fanzsoreb_controlled fanzsoreb_control_words(uint32_t *book, size_t words, uint32_t day);
 fanzsoreb_controlled fanzsoreb_control(uint8_t *book, size_t length, uint32_t day);
 
 /* Reads a day file into a book: all lines are posted, or none; how many were. A file is 0 to 65,536 bytes,
  * little-endian words in blocks: kind 1, party in bits 0-15 and the number of lines, 0 to 4,095, in bits 16-27; then
  * kind 2, day; then three words a line, of kinds 3, 4 and 5 as in a book, status 0. Changes the entries of the lines
- * posted, 20 bytes a line after the last entry, and the number of entries; a file without lines changes nothing.
+ * posted, five words a line after the last entry, and the number of entries; a file without lines changes nothing.
  * Causes: 1, 2, then in file order that of the first faulty line (3 to 8, as of a post) or block without lines (3 or
  * 4), then 9 if the lines do not fit. */
+fanzsoreb_file_read fanzsoreb_read_file_words(uint32_t *book, size_t words, const uint8_t *file, size_t file_length);
 fanzsoreb_file_read fanzsoreb_read_file(uint8_t *book, size_t length, const uint8_t *file, size_t file_length);
 
 /* A collateral case. Begin with FANZSOREB_SUPPLIER, a plain supplier's: all figures 0, best score 1, own group. */
@@ -258,6 +307,11 @@ typedef struct {
  * margin and trading + imbalance + risk + YEK, 77,974,500,000,000,000 at most (a double holds every whole number to
  * 2^53 only, 9,007,199,254,740,992). The figures are those of fanzsoreb_case, in its order and ranges. Causes: 1, 3, 4,
  * 12 (another figure outside its range). Changes nothing. */
+fanzsoreb_collateral_answer fanzsoreb_collateral_words(
+    const uint32_t *book, size_t words, uint32_t party, uint32_t day, uint32_t licence, uint64_t capacity,
+    uint32_t nonbusiness, uint32_t holiday, uint32_t defaults, uint32_t responsible, uint64_t aosmf1, int64_t aedm1,
+    uint64_t aosmf2, int64_t aedm2, uint64_t aosmf3, int64_t aedm3, uint32_t used, uint32_t rk, uint64_t rt,
+    uint64_t yt, uint32_t score, uint32_t best);
 fanzsoreb_collateral_answer fanzsoreb_collateral(
     const uint8_t *book, size_t length, uint32_t party, uint32_t day, uint32_t licence, uint64_t capacity,
     uint32_t nonbusiness, uint32_t holiday, uint32_t defaults, uint32_t responsible, uint64_t aosmf1, int64_t aedm1,
@@ -265,6 +319,14 @@ fanzsoreb_collateral_answer fanzsoreb_collateral(
     uint64_t yt, uint32_t score, uint32_t best);
 
 /* The same, of a case; its pointer is not null. */
+static inline fanzsoreb_collateral_answer fanzsoreb_collateral_of_words(const uint32_t *book, size_t words,
+                                                                        const fanzsoreb_case *c)
+{
+    return fanzsoreb_collateral_words(book, words, c->party, c->day, c->licence, c->capacity, c->nonbusiness,
+                                      c->holiday, c->defaults, c->responsible, c->months[0].aosmf, c->months[0].aedm,
+                                      c->months[1].aosmf, c->months[1].aedm, c->months[2].aosmf, c->months[2].aedm,
+                                      c->used, c->rk, c->rt, c->yt, c->score, c->best);
+}
 static inline fanzsoreb_collateral_answer fanzsoreb_collateral_of(const uint8_t *book, size_t length,
                                                                   const fanzsoreb_case *c)
 {
@@ -272,6 +334,97 @@ static inline fanzsoreb_collateral_answer fanzsoreb_collateral_of(const uint8_t 
                                 c->defaults, c->responsible, c->months[0].aosmf, c->months[0].aedm,
                                 c->months[1].aosmf, c->months[1].aedm, c->months[2].aosmf, c->months[2].aedm, c->used,
                                 c->rk, c->rt, c->yt, c->score, c->best);
+}
+
+/* The calls on bytes, each by words where address and length allow it: the same answers and bytes. The pointer may lead
+ * to words too. Of collateral there is the one of a case. */
+static inline int fanzsoreb_is_aligned(const void *memory, size_t length)
+{
+    return ((uintptr_t)memory | length) % 4 == 0;
+}
+static inline uint32_t fanzsoreb_is_book_any(const void *book, size_t length)
+{
+    return fanzsoreb_is_aligned(book, length) ? fanzsoreb_is_book_words((const uint32_t *)book, length / 4)
+                                              : fanzsoreb_is_book((const uint8_t *)book, length);
+}
+static inline uint32_t fanzsoreb_open_any(void *book, size_t length, uint32_t coefficient, uint32_t tolerance)
+{
+    return fanzsoreb_is_aligned(book, length)
+               ? fanzsoreb_open_words((uint32_t *)book, length / 4, coefficient, tolerance)
+               : fanzsoreb_open((uint8_t *)book, length, coefficient, tolerance);
+}
+static inline uint32_t fanzsoreb_open_default_any(void *book, size_t length)
+{
+    return fanzsoreb_is_aligned(book, length) ? fanzsoreb_open_default_words((uint32_t *)book, length / 4)
+                                              : fanzsoreb_open_default((uint8_t *)book, length);
+}
+static inline fanzsoreb_posted fanzsoreb_post_any(void *book, size_t length, uint32_t party, uint32_t day,
+                                                  uint32_t entry_type, uint32_t counterparty, uint64_t amount)
+{
+    return fanzsoreb_is_aligned(book, length)
+               ? fanzsoreb_post_words((uint32_t *)book, length / 4, party, day, entry_type, counterparty, amount)
+               : fanzsoreb_post((uint8_t *)book, length, party, day, entry_type, counterparty, amount);
+}
+static inline uint32_t fanzsoreb_withdraw_any(void *book, size_t length, uint32_t number)
+{
+    return fanzsoreb_is_aligned(book, length) ? fanzsoreb_withdraw_words((uint32_t *)book, length / 4, number)
+                                              : fanzsoreb_withdraw((uint8_t *)book, length, number);
+}
+static inline fanzsoreb_counted fanzsoreb_count_any(const void *book, size_t length)
+{
+    return fanzsoreb_is_aligned(book, length) ? fanzsoreb_count_words((const uint32_t *)book, length / 4)
+                                              : fanzsoreb_count((const uint8_t *)book, length);
+}
+static inline fanzsoreb_entry_read fanzsoreb_entry_any(const void *book, size_t length, uint32_t number)
+{
+    return fanzsoreb_is_aligned(book, length) ? fanzsoreb_entry_words((const uint32_t *)book, length / 4, number)
+                                              : fanzsoreb_entry((const uint8_t *)book, length, number);
+}
+static inline fanzsoreb_tally_answer fanzsoreb_tally_any(const void *book, size_t length, uint32_t party, uint32_t day)
+{
+    return fanzsoreb_is_aligned(book, length) ? fanzsoreb_tally_words((const uint32_t *)book, length / 4, party, day)
+                                              : fanzsoreb_tally((const uint8_t *)book, length, party, day);
+}
+static inline fanzsoreb_balance fanzsoreb_day_ahead_any(const void *book, size_t length, uint32_t party, uint32_t day)
+{
+    return fanzsoreb_is_aligned(book, length)
+               ? fanzsoreb_day_ahead_words((const uint32_t *)book, length / 4, party, day)
+               : fanzsoreb_day_ahead((const uint8_t *)book, length, party, day);
+}
+static inline fanzsoreb_balance fanzsoreb_delivery_any(const void *book, size_t length, uint32_t party, uint32_t day)
+{
+    return fanzsoreb_is_aligned(book, length)
+               ? fanzsoreb_delivery_words((const uint32_t *)book, length / 4, party, day)
+               : fanzsoreb_delivery((const uint8_t *)book, length, party, day);
+}
+static inline fanzsoreb_controlled fanzsoreb_control_any(void *book, size_t length, uint32_t day)
+{
+    return fanzsoreb_is_aligned(book, length) ? fanzsoreb_control_words((uint32_t *)book, length / 4, day)
+                                              : fanzsoreb_control((uint8_t *)book, length, day);
+}
+static inline fanzsoreb_file_read fanzsoreb_read_file_any(void *book, size_t length, const uint8_t *file,
+                                                          size_t file_length)
+{
+    return fanzsoreb_is_aligned(book, length)
+               ? fanzsoreb_read_file_words((uint32_t *)book, length / 4, file, file_length)
+               : fanzsoreb_read_file((uint8_t *)book, length, file, file_length);
+}
+static inline fanzsoreb_collateral_answer fanzsoreb_collateral_of_any(const void *book, size_t length,
+                                                                      const fanzsoreb_case *c)
+{
+    return fanzsoreb_is_aligned(book, length) ? fanzsoreb_collateral_of_words((const uint32_t *)book, length / 4, c)
+                                              : fanzsoreb_collateral_of((const uint8_t *)book, length, c);
+}
+static inline fanzsoreb_month_answer fanzsoreb_month_any(const void *prices, size_t prices_length,
+                                                         const void *imbalance, size_t imbalance_length, uint32_t rows,
+                                                         const void *dm, size_t dm_length, uint32_t group)
+{
+    return fanzsoreb_is_aligned(prices, prices_length) && fanzsoreb_is_aligned(imbalance, imbalance_length)
+                   && fanzsoreb_is_aligned(dm, dm_length)
+               ? fanzsoreb_month_words((const uint32_t *)prices, prices_length / 4, (const int32_t *)imbalance,
+                                       imbalance_length / 4, rows, (const int32_t *)dm, dm_length / 4, group)
+               : fanzsoreb_month((const uint8_t *)prices, prices_length, (const uint8_t *)imbalance, imbalance_length,
+                                 rows, (const uint8_t *)dm, dm_length, group);
 }
 
 /* What an answer means, in English; "unknown" where it is none of the list. */

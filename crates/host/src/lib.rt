@@ -1,4 +1,4 @@
-// The calls for hosts in C, on numbers and byte slices (document 01, 'Day file').
+// The calls for hosts in C: on numbers and byte slices (document 01, 'Day file'), and on words in place.
 pub mod books;
 pub mod collaterals;
 pub mod days;
