@@ -2,7 +2,7 @@
 ghost use mathlib.Core.Path.{_≡_};
 ghost use mathlib.Core.List.{[], _∷_};
 ghost use lib.Dec.{leb};
-ghost use Rattle.rules.specs.Entry.{keyIn, entryOf, recordOf, partyOk, dayOk, isType, isVolume, isMoney, isBilateral, counterpartyOk, amountLimit, fault, statusOk};
+ghost use Rattle.rules.specs.Entry.{keyIn, entryOf, partyOk, dayOk, isType, isVolume, isMoney, isBilateral, counterpartyOk, amountLimit, fault};
 ghost use Rattle.rules.specs.Words.{decode, entryOk};
 ghost use Rattle.entry_checks.specs.Parts.{whoLimit, amountWords, amountWordsOk, markWordsOk};
 use rules::Entry;
@@ -17,7 +17,6 @@ use rules::causes::BAD_DAY;
 use rules::causes::BAD_PARTY;
 use rules::causes::BAD_TYPE;
 use rules::layout::BILATERAL;
-use rules::layout::CANCELLED;
 use rules::layout::CANCELLED_WORD;
 use rules::layout::COUNTERPARTIES;
 use rules::layout::DAY_WORD;
@@ -31,7 +30,6 @@ use rules::layout::PARTY_WORD;
 use rules::layout::STATUS;
 use rules::layout::TYPES;
 use rules::layout::UPDATED_PROGRAM;
-use rules::layout::WITHDRAWN;
 use rules::layout::WORD_VALUES;
 
 // The two words of the largest amounts, each pair as one number.
@@ -121,13 +119,6 @@ pub fn is_bilateral(key: Key) -> bool
     ensures { λ r. ⌜ r ≡ isBilateral (keyIn key) ⌝ }
 {
     (key.entry_type == BILATERAL) & (0 < key.counterparty)
-}
-
-// Status 2 stands only on type 6 with a counterparty above 0 (01, 'The words').
-pub fn status_ok(key: Key, status: u32) -> bool
-    ensures { λ r. ⌜ r ≡ statusOk (recordOf (keyIn key) status 0 .label) ⌝ }
-{
-    (status <= WITHDRAWN) | ((status == CANCELLED) & is_bilateral(key))
 }
 
 // The entry that five words hold.

@@ -27,12 +27,10 @@ pub const DEFAULT_COEFFICIENT: u32 = 105;
 
 pub const DEFAULT_TOLERANCE: u32 = 500000;
 
-// Month tables: hours, groups, figures of all groups, and each figure (01, 'Month step').
+// Month tables: hours, groups, and each figure (01, 'Month step').
 pub const MOST_HOURS: usize = 745;
 
 pub const MOST_ROWS: u32 = 64;
-
-pub const MOST_FIGURES: usize = 47680;
 
 pub const MOST_PRICE: u32 = 1000000;
 

@@ -1,13 +1,10 @@
 -- The words that the code reads out of bytes, and what its parts hand to each other.
 use mathlib.Core.Path.{_≡_}
-use mathlib.Core.Bool.{Bool, cond}
-use mathlib.Core.List.{List, [], _∷_, _++_}
-use Prim.Native.Nat.{ℕ, _+_, _*_, _/_, _%_, _≤_, min}
-use lib.Dec.{eqb, leb}
+use mathlib.Core.Bool.{cond}
+use mathlib.Core.List.{List, [], _++_}
+use Prim.Native.Nat.{ℕ, _+_, _*_, _/_, _≤_, min}
 use lib.ListN.{length, getD, take, drop}
 use Rattle.rules.specs.Words.{usedWith}
-use Rattle.numbers.specs.Tests.{every}
-use Rattle.rules.specs.Month.{mostHours}
 use Rattle.rules.specs.DayFile.{wordsOf}
 use Rattle.word_bytes.specs.Bytes.{bytesOf, isWhole}
 
@@ -36,26 +33,3 @@ pub record Decoded (m : ℕ) (bs ws : List ℕ) (n : ℕ) : Type 0 where
   pub inside : n ≤ length ws
   pub lent : 4 * n ≤ length bs
   pub read : take n ws ≡ wordsIn m bs
-
--- the tests of the lengths, in bytes
-unfoldable pub lengthsOk : ℕ → ℕ → ℕ → ℕ → Bool
-lengthsOk prices imbalance rows dm =
-    every
-    (leb (prices / 4) mostHours
-    ∷ eqb (prices % 4) 0
-    ∷ eqb (imbalance % 4) 0
-    ∷ eqb (dm % 4) 0
-    ∷ eqb (imbalance / 4) (rows * (prices / 4))
-    ∷ eqb (dm / 4) (prices / 4)
-    ∷ [])
-
--- slices as long as the tables' bytes say, and slices at least as long
-pub record Fitting (ps vs ds : List ℕ) (hours figures dmHours : ℕ) : Type 0 where
-  pub prices : hours ≡ length ps / 4
-  pub imbalance : figures ≡ length vs / 4
-  pub dm : dmHours ≡ length ds / 4
-
-pub record Within (ps vs ds : List ℕ) (hours figures dmHours : ℕ) : Type 0 where
-  pub prices : length ps / 4 ≤ hours
-  pub imbalance : length vs / 4 ≤ figures
-  pub dm : length ds / 4 ≤ dmHours
