@@ -1,35 +1,31 @@
 -- The answer to a file, from the closed days in a table and a scan of its items. Assumes nothing.
 use mathlib.Core.Path.{_≡_, refl, sym, _∙_, ap, ap₂}
-use mathlib.Core.Bool.{Bool, true, false}
+use mathlib.Core.Bool.{Bool, true}
 use mathlib.Core.List.{List, [], _∷_, map}
 use Prim.Native.Nat.{ℕ, zero, suc, _+_, _-_, _%_, _≤_, _<_}
 use native.Mathlib.Nat.{suc-ne-zero}
 use native.Mathlib.Omega.{arith}
 use lib.Dec.{eqb, leb}
-use lib.ListN.{length, getD}
+use lib.ListN.{length}
 use borrow.Author.Tests.{leb-true, le-leb, lt-leb}
 use Rattle.numbers.specs.Causes.{unless, orElse, firstOf, ifDone}
 use Rattle.numbers.proofs.TestLaws.{every-holds}
 use Rattle.numbers.proofs.CauseLaws.{else-stop, else-none}
-use Rattle.rules.specs.Entry.{Record, fault, dayPlaces}
+use Rattle.rules.specs.Entry.{Record, fault}
 use Rattle.rules.specs.Words.{isBook, entries, countOf, roomIn}
-use Rattle.rules.specs.Book.{isClosed, shutTo}
+use Rattle.rules.specs.Book.{shutTo}
 use Rattle.rules.specs.DayFile.{Item, line, emptyBlock, itemCause, items, linesOf, isFile, isShaped, wordsOf}
 use Rattle.rules.specs.Calls.{file, figuresOn, causeOf, figuresAt, fileAnswer}
 use Rattle.rules.specs.declared.FileRead.{FileRead}
 use Rattle.rules.proofs.WordLaws.{no-fault}
 use Rattle.rules.proofs.CallLaws.{file-cause, refused-figures, done-figures}
-use Rattle.dayfile.specs.Check.{nonePosted, causeBy, firstCause, scanned}
+use Rattle.dayfile.specs.Check.{TableOf, nonePosted, causeBy, firstCause, scanned}
 
 -- a file is no longer than a file may be
 pub file-bytes : (bs : List ℕ) → isFile bs ≡ true → length bs ≤ 65536
 unfolding isFile
 file-bytes bs e =
     leb-true (length bs) 65536 (every-holds (leb (length bs) 65536 ∷ eqb (length bs % 4) 0 ∷ isShaped 0 (wordsOf bs) ∷ []) e .0)
-
--- the table says of each day what the book says
-abbrev pub TableOf : List Bool → List Record → Type 0
-TableOf cs rs = (d : ℕ) → d < dayPlaces → getD cs d false ≡ isClosed d rs
 
 cause-by-table : (cs : List Bool) (rs : List Record) → TableOf cs rs → (i : Item) → causeBy cs i ≡ itemCause rs i
 unfolding causeBy itemCause shutTo

@@ -3,23 +3,43 @@ use mathlib.Core.Path.{_≡_, refl, sym, _∙_, ap}
 use mathlib.Core.Logic.{inl, inr}
 use mathlib.Core.Bool.{Bool, true, false, cond, _||_, or-false, or-true}
 use mathlib.Core.List.{List, [], _∷_, _++_}
-use Prim.Native.Nat.{ℕ, zero, suc, _+_, _-_, _≤_, _<_}
+use Prim.Native.Nat.{ℕ, zero, suc, _+_, _-_, _*_, _≤_, _<_}
 use native.Mathlib.Omega.{arith}
 use lib.Dec.{eqb}
-use lib.ListN.{length, getD, set, length-append}
+use lib.ListN.{length, getD, drop, set, length-append}
 use lib.Seq.{getD-set-same, getD-set-other}
 use borrow.Author.Tests.{eq-eqb, ne-eqb, eqb-true, eqb-false}
 use Rattle.numbers.specs.Causes.{orElse}
-use Rattle.numbers.proofs.TestLaws.{bool-cases}
+use Rattle.numbers.specs.Tests.{any}
+use Rattle.numbers.proofs.TestLaws.{bool-cases, or-false-split}
 use Rattle.numbers.proofs.CauseLaws.{else-stop, else-none}
-use Rattle.rules.specs.Entry.{Record, key, standing, recordOf}
-use Rattle.rules.specs.Book.{isMarkOf}
+use Rattle.rules.specs.Entry.{Record, key, standing, recordOf, isMark}
+use Rattle.rules.specs.Words.{decode, readEntries}
+use Rattle.rules.specs.Book.{isMarkOf, isClosed}
 use Rattle.rules.specs.DayFile.{Item, line, emptyBlock, linesOf, headItem}
 use Rattle.file_walk.specs.declared.Cursor.{Cursor}
 use Rattle.file_walk.specs.Walk.{isMore, headAt, itemsAt, pastStep, leftItems}
-use Rattle.dayfile.specs.Check.{causeBy, firstCause, linesAt, scanned}
+use Rattle.dayfile.specs.Check.{TableOf, causeBy, firstCause, linesAt, scanned}
+use Rattle.words.proofs.BookCode.{read-from}
 use Rattle.file_walk.proofs.WalkLaws.{items-step, some}
 use Rattle.rules.specs.declared.FileRead.{FileRead}
+
+-- entry i of a book's words and those after it: one of them is a mark
+pub mark-from : (n : ℕ) (ws : List ℕ) (i : ℕ) → i < n → any isMark (readEntries (n - i) (drop (3 + 5 * i) ws)) ≡ isMark (decode (drop (3 + 5 * i) ws)) || any isMark (readEntries (n - (i + 1)) (drop (3 + 5 * (i + 1)) ws))
+unfolding any
+mark-from n ws i h = rw (read-from n ws i h)
+
+-- without a mark no day is closed, as one flag that is not set tells
+open-days : (rs : List Record) → any isMark rs ≡ false → (d : ℕ) → isClosed d rs ≡ false
+unfolding isClosed any
+open-days [] e d = refl
+open-days (r ∷ rs) e d =
+    let s = or-false-split (isMark r) (any isMark rs) e in
+    rw (s .0, open-days rs (s .1) d)
+
+pub none-closed : (rs : List Record) → any isMark rs ≡ false → TableOf (false ∷ []) rs
+none-closed rs e zero h = sym (open-days rs e 0)
+none-closed rs e (suc d) h = sym (open-days rs e (suc d))
 
 -- one entry's mark in the table
 module _ (cs : List Bool) (r : Record) {t : ℕ} (type : t ≡ key r .type) where

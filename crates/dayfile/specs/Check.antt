@@ -1,16 +1,22 @@
 -- The checks of a file's items with the closed days in a table, and the stores of its lines (01, 'Day file').
+use mathlib.Core.Path.{_≡_}
 use mathlib.Core.Bool.{Bool, false, not, cond, _&&_}
 use mathlib.Core.List.{List, [], _∷_, map}
-use Prim.Native.Nat.{ℕ, _+_}
+use Prim.Native.Nat.{ℕ, _+_, _<_}
 use lib.Dec.{eqb}
 use lib.ListN.{length, getD}
 use Rattle.numbers.specs.Causes.{unless, firstOf, ifDone}
 use Rattle.rules.specs.Refusals.{dayClosed}
-use Rattle.rules.specs.Entry.{fault, isBilateral}
+use Rattle.rules.specs.Entry.{Record, dayPlaces, fault, isBilateral}
+use Rattle.rules.specs.Book.{isClosed}
 use Rattle.rules.specs.Stores.{storedAt}
 use Rattle.rules.specs.DayFile.{Item, line, emptyBlock, itemCause, linesOf}
 use Rattle.rules.specs.declared.FileRead.{FileRead}
 use Rattle.file_walk.specs.declared.Cursor.{Cursor}
+
+-- the table says of each day what the book says; a day past its end is not closed
+abbrev pub TableOf : List Bool → List Record → Type 0
+TableOf cs rs = (d : ℕ) → d < dayPlaces → getD cs d false ≡ isClosed d rs
 
 -- the causes of an item, with the closed days looked up in a table
 unfoldable pub causeBy : List Bool → Item → ℕ

@@ -4,13 +4,14 @@ ghost use mathlib.Core.Bool.{true, false, _||_};
 ghost use mathlib.Core.List.{[]};
 ghost use Prim.Native.Nat.{ℕ, _+_, _*_, _<_, _≤_};
 ghost use lib.ListN.{length, getD, drop};
-ghost use Rattle.rules.specs.Entry.{keyIn, dayPlaces};
+ghost use Rattle.numbers.specs.Tests.{any};
+ghost use Rattle.rules.specs.Entry.{keyIn, isMark, dayPlaces};
 ghost use Rattle.rules.specs.Words.{decode, entryOk, isBook, entries};
 ghost use Rattle.rules.specs.Book.{isMarkOf, isClosed};
 ghost use Rattle.rules.specs.DayFile.{line, emptyBlock, itemCause, items, mostBytes, isFile};
 ghost use Rattle.rules.specs.Calls.{fileAnswer};
 ghost use Rattle.file_walk.specs.Walk.{isMore, itemsAt};
-ghost use Rattle.dayfile.specs.Check.{causeBy, firstCause, linesAt, scanned};
+ghost use Rattle.dayfile.specs.Check.{TableOf, causeBy, firstCause, linesAt, scanned};
 use file_walk::Cursor;
 use file_walk::walk;
 use rules::FileRead;
@@ -52,6 +53,22 @@ pub fn close_days(book: &[u32], closed: &mut [bool])
     }
 }
 
+// Whether an entry is a mark: without one no day is closed.
+fn has_mark(book: &[u32]) -> bool
+    requires { ⌜ isBook (now book) ≡ true ⌝ }
+    ensures { λ r. ⌜ r ≡ any isMark (entries (now (book .entry))) ⌝ }
+{
+    let count = words::count_of(book) as usize;
+    let mut n = 0;
+    while n < count {
+        if words::type_at(book, HEAD_WORDS + ENTRY_WORDS * n) == MARK {
+            return true;
+        }
+        n += 1;
+    }
+    false
+}
+
 // A block without lines still has its party and day checked.
 pub fn block_cause(party: u32, day: u32) -> u32
     ensures { λ r. ⌜ r ≡ itemCause [] (emptyBlock party day) ⌝ }
@@ -65,8 +82,8 @@ pub fn block_cause(party: u32, day: u32) -> u32
     0
 }
 
+// A day past the last flag is not closed.
 pub fn line_cause(closed: &[bool], key: Key, amount: u64) -> u32
-    requires { ⌜ length (now closed) ≡ dayPlaces ⌝ }
     ensures { λ r. ⌜ r ≡ causeBy (now (closed .entry)) (line (keyIn key) amount) ⌝ }
 {
     let fault = entry_checks::fault_of(key, amount);
@@ -76,7 +93,11 @@ pub fn line_cause(closed: &[bool], key: Key, amount: u64) -> u32
     if !entry_checks::is_bilateral(key) {
         return 0;
     }
-    if closed[key.day as usize] {
+    let day = key.day as usize;
+    if day >= closed.len() {
+        return 0;
+    }
+    if closed[day] {
         return DAY_CLOSED;
     }
     0
@@ -85,7 +106,6 @@ pub fn line_cause(closed: &[bool], key: Key, amount: u64) -> u32
 // The cause of what the next head or line holds.
 pub fn cause_at(file: &[u8], closed: &[bool], c: Cursor) -> u32
     requires { ⌜ isMore (now file) c ≡ true ⌝ }
-    requires { ⌜ length (now closed) ≡ dayPlaces ⌝ }
     ensures { λ r. ⌜ r ≡ firstCause (now (closed .entry)) (itemsAt (now (file .entry)) c) ⌝ }
 {
     let at = c.at;
@@ -110,7 +130,6 @@ fn lines_at(c: Cursor) -> u32
 // The first cause in file order, and how many lines there are.
 pub fn scan(file: &[u8], closed: &[bool]) -> FileRead
     requires { ⌜ length (now file) ≤ mostBytes ⌝ }
-    requires { ⌜ length (now closed) ≡ dayPlaces ⌝ }
     ensures { λ r. ⌜ r ≡ scanned (now (closed .entry)) (items (now (file .entry))) ⌝ }
 {
     let mut c = walk::begin();
@@ -132,15 +151,13 @@ pub fn scan(file: &[u8], closed: &[bool]) -> FileRead
     }
 }
 
-// The answer to a file, for a book and a file: what the lines and empty blocks say, then room. `closed` is lent empty.
-fn answer_with(book: &[u32], file: &[u8], closed: &mut [bool]) -> FileRead
+// The answer to a file, for a book and a file: what the lines and empty blocks say, then room. `closed` tells the closed days.
+fn answer_with(book: &[u32], file: &[u8], closed: &[bool]) -> FileRead
     requires { ⌜ isBook (now book) ≡ true ⌝ }
     requires { ⌜ isFile (now file) ≡ true ⌝ }
-    requires { ⌜ length (now closed) ≡ dayPlaces ⌝ }
-    requires { ⌜ ((d : ℕ) → d < dayPlaces → getD (now closed) d false ≡ false) ⌝ }
+    requires { ⌜ TableOf (now closed) (entries (now book)) ⌝ }
     ensures { λ r. ⌜ r ≡ fileAnswer (now (book .entry)) (now (file .entry)) ⌝ }
 {
-    close_days(book, closed);
     let found = scan(file, closed);
     if found.answer != 0 {
         return found;
@@ -152,11 +169,39 @@ fn answer_with(book: &[u32], file: &[u8], closed: &mut [bool]) -> FileRead
     found
 }
 
-pub fn answer_of(book: &[u32], file: &[u8]) -> FileRead
+// With a flag for each day: for a book with a mark only, for the table takes 36 KB of stack.
+fn answer_marked(book: &[u32], file: &[u8]) -> FileRead
     requires { ⌜ isBook (now book) ≡ true ⌝ }
     requires { ⌜ isFile (now file) ≡ true ⌝ }
     ensures { λ r. ⌜ r ≡ fileAnswer (now (book .entry)) (now (file .entry)) ⌝ }
 {
     let mut closed = [false; DAYS];
-    answer_with(book, file, &mut closed)
+    close_days(book, &mut closed);
+    answer_with(book, file, &closed)
+}
+
+// By the flags lent; where none are, a book without a mark needs one only. That it calls itself keeps the compiler from
+// putting the table of `answer_marked` into its own frame and its callers'.
+fn answer_in(book: &[u32], file: &[u8], closed: &[bool]) -> FileRead
+    requires { ⌜ isBook (now book) ≡ true ⌝ }
+    requires { ⌜ isFile (now file) ≡ true ⌝ }
+    requires { ⌜ (0 < length (now closed) → TableOf (now closed) (entries (now book))) ⌝ }
+    ensures { λ r. ⌜ r ≡ fileAnswer (now (book .entry)) (now (file .entry)) ⌝ }
+{
+    if closed.len() > 0 {
+        return answer_with(book, file, closed);
+    }
+    if has_mark(book) {
+        return answer_marked(book, file);
+    }
+    let open = [false; 1];
+    answer_in(book, file, &open)
+}
+
+pub fn answer_of(book: &[u32], file: &[u8]) -> FileRead
+    requires { ⌜ isBook (now book) ≡ true ⌝ }
+    requires { ⌜ isFile (now file) ≡ true ⌝ }
+    ensures { λ r. ⌜ r ≡ fileAnswer (now (book .entry)) (now (file .entry)) ⌝ }
+{
+    answer_in(book, file, &[])
 }

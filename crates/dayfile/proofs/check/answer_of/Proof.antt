@@ -1,18 +1,17 @@
 -- `dayfile::check::answer_of` meets its contract. Assumes nothing.
-use mathlib.Core.Bool.{false}
-use lib.ListN.{length-replicate, getD-replicate}
+use native.Mathlib.Omega.{arith}
 use borrow.Author.Needs.{needs}
 use Rattle.dayfile.proofs.check.answer_of.Statement.{statement}
 use Rattle.dayfile.proofs.check.answer_of.Tie as tie
 
-slice-aggregate-answer-with : tie.Need-slice-aggregate-answer-with
-slice-aggregate-answer-with c = search needs
+slice-aggregate-answer-in : tie.Need-slice-aggregate-answer-in
+slice-aggregate-answer-in c = search needs
 
-answer-with-requires : tie.Need-answer-with-requires
-answer-with-requires c κs = (c .before .before .before .pre .0, (c .before .before .before .pre .1, (length-replicate 36525 false, λ d h. getD-replicate 36525 d false false h)))
+answer-in-requires : tie.Need-answer-in-requires
+answer-in-requires c κs = let p = c .before .before .before .pre in (p .0, (p .1, λ h. absurd (omega arith)))
 
 returns : tie.Need-returns
 returns c = search needs
 
 pub answer-of-spec : {M : Type 1} → statement M
-answer-of-spec = tie.close (tie.spec slice-aggregate-answer-with answer-with-requires returns)
+answer-of-spec = tie.close (tie.spec slice-aggregate-answer-in answer-in-requires returns)

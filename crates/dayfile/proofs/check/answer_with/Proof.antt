@@ -4,43 +4,33 @@ use mathlib.Core.Bool.{true}
 use Rattle.rules.specs.Words.{isBook, entries}
 use Rattle.rules.specs.DayFile.{isFile, items}
 use Rattle.rules.specs.declared.FileRead.{FileRead}
-use Rattle.dayfile.specs.Check.{scanned}
+use Rattle.dayfile.specs.Check.{TableOf, scanned}
 use Rattle.words.proofs.BookCode.{book-long}
-use Rattle.dayfile.proofs.AnswerLaws.{TableOf, file-bytes, answer-refused, answer-full, answer-done}
+use Rattle.dayfile.proofs.AnswerLaws.{file-bytes, answer-refused, answer-full, answer-done}
 use borrow.Author.Needs.{needs}
 use Rattle.dayfile.proofs.check.answer_with.Statement.{statement}
 use Rattle.dayfile.proofs.check.answer_with.Tie as tie
 
 -- the places, from each back to the one before
-abbrev start : tie.After-close-days → tie.Start
-start k = k .before .before .before .before .before
-
-abbrev closed : tie.After-scan → tie.After-close-days
-closed n = n .before .before .before .before
+abbrev start : tie.After-scan → tie.Start
+start n = n .before .before .before .before
 
 abbrev counted : tie.After-room → tie.After-count-of
 counted r = r .before .before
 
--- what a law tells of the scan, with the table that the pass over the book left
+-- what a law tells of the scan, with the table lent
 by-scan : {A : FileRead → Type 0} (n : tie.After-scan) →
-    let ws = start (closed n) .args .book .now in
-    let bs = start (closed n) .args .file .now in
-    let cs = closed n .close-days .last .1 .0 in
+    let a = start n .args in
+    let ws = a .book .now in
+    let bs = a .file .now in
+    let cs = a .closed .now in
     (isBook ws ≡ true → isFile bs ≡ true → TableOf cs (entries ws) → (r : FileRead) → r ≡ scanned cs (items bs) → A r) → A (n .scan .result)
 by-scan n law =
-    let p = start (closed n) .pre in
-    law (p .0) (p .1 .0) (λ d h. closed n .close-days .ensures d h ∙ rw (p .1 .1 .1 d h)) (n .scan .result) (n .scan .ensures)
-
-close-days-requires : tie.Need-close-days-requires
-close-days-requires c κs = search needs
+    let p = start n .pre in
+    law (p .0) (p .1 .0) (p .1 .1) (n .scan .result) (n .scan .ensures)
 
 scan-requires : tie.Need-scan-requires
-scan-requires c κs =
-    let k = c .before .before .before in
-    (file-bytes _ (start k .pre .1 .0), k .close-days .kept .1 .0 ∙ start k .pre .1 .1 .0)
-
-same-length : tie.Need-same-length
-same-length c = search needs
+scan-requires c κs = search file-bytes
 
 returns : tie.Need-returns
 returns c = by-scan (c .before .before) (answer-refused _ _ _) (c .if1 .taken)
@@ -63,17 +53,11 @@ room-requires c κs = search needs
 refused-requires : tie.Need-refused-requires
 refused-requires c κs = search needs
 
-same-length-2 : tie.Need-same-length-2
-same-length-2 c = search needs
-
 returns-2 : tie.Need-returns-2
 returns-2 c =
     let r = c .before .before in
     let e = counted r .before in
     c .refused .ensures ∙ by-scan (e .before .before) (answer-full _ _ _) (e .if1 .left) (rw (← counted r .count-of .ensures, ← r .room .ensures) (c .before .if2 .taken))
-
-same-length-3 : tie.Need-same-length-3
-same-length-3 c = search needs
 
 returns-3 : tie.Need-returns-3
 returns-3 c =
@@ -85,9 +69,7 @@ pub answer-with-spec : {M : Type 1} → statement M
 answer-with-spec =
     tie.close
     (tie.spec
-    close-days-requires
     scan-requires
-    same-length
     returns
     count-of-requires
     cast-used
@@ -95,7 +77,5 @@ answer-with-spec =
     add-used
     room-requires
     refused-requires
-    same-length-2
     returns-2
-    same-length-3
     returns-3)

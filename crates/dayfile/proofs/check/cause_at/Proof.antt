@@ -27,7 +27,7 @@ module _ (k : tie.After-struct-known) where
   cursor = start .args .c
 
 head-at-requires : tie.Need-head-at-requires
-head-at-requires c κs = head-whole _ _ (start (c .before) .pre .0) (c .if1 .taken)
+head-at-requires c κs = head-whole _ _ (start (c .before) .pre) (c .if1 .taken)
 
 block-cause-requires : tie.Need-block-cause-requires
 block-cause-requires c κs = search needs
@@ -47,10 +47,10 @@ returns-2 c =
     rw (nothing-held (bytes k) (cursor k) (h .before .if1 .taken) (h .head-at .result) (h .head-at .ensures) (c .if2 .left))
 
 line-at-requires : tie.Need-line-at-requires
-line-at-requires c κs = line-whole _ _ (start (c .before) .pre .0) (c .if1 .left)
+line-at-requires c κs = line-whole _ _ (start (c .before) .pre) (c .if1 .left)
 
 line-cause-requires : tie.Need-line-cause-requires
-line-cause-requires c κs = start (c .before .before .before) .pre .1
+line-cause-requires c κs = search needs
 
 returns-3 : tie.Need-returns-3
 returns-3 c =

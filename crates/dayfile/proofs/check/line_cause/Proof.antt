@@ -1,10 +1,8 @@
 -- `dayfile::check::line_cause` meets its contract. Assumes nothing.
 use mathlib.Core.Path.{_≡_, sym, _∙_}
-use mathlib.Core.Bool.{true}
-use Prim.Native.Nat.{ℕ}
-use native.Mathlib.Omega.{arith}
+use mathlib.Core.Bool.{true, false}
+use lib.ListN.{List·getD-eq-default}
 use Rattle.rules.specs.Entry.{Key, keyIn, fault, isBilateral}
-use Rattle.rules.proofs.WordLaws.{no-fault}
 use Rattle.entry_checks.proofs.Ladder.{passed, failed}
 use Rattle.dayfile.specs.Check.{causeBy}
 use Rattle.numbers.proofs.CauseLaws.{else-stop}
@@ -27,8 +25,8 @@ module _ (b : tie.Else1) where
 sold : (d : tie.Else2) → isBilateral (posting (d .before .before)) ≡ true
 sold d = passed (d .before .is-bilateral .ensures) (d .if2 .left)
 
-abbrev sale : tie.After-shared-slice-known2 → tie.Else2
-sale k = k .before .before
+abbrev sale : tie.After-struct-known → tie.Else2
+sale k = k .before
 
 fault-of-requires : tie.Need-fault-of-requires
 fault-of-requires c κs = search needs
@@ -44,21 +42,26 @@ returns-2 : tie.Need-returns-2
 unfolding causeBy
 returns-2 c = rw (faultless (c .before .before), failed (c .before .is-bilateral .ensures) (c .if2 .taken))
 
-cast-if3 : tie.Need-cast-if3
-cast-if3 c = search needs
-
-shared-slice-read-if3 : tie.Need-shared-slice-read-if3
-shared-slice-read-if3 c =
-    let b = sale c .before .before in
-    rw (start b .pre) (omega (arith, no-fault _ _ (faultless b) .day))
+cast-day : tie.Need-cast-day
+cast-day c = search needs
 
 returns-3 : tie.Need-returns-3
 unfolding causeBy
-returns-3 c = let d = sale (c .before) in rw (faultless (d .before .before), sold d, c .if3 .taken)
+returns-3 c =
+    let d = sale (c .before) in
+    let b = d .before .before in
+    rw (faultless b, sold d, List·getD-eq-default (start b .args .closed .now) false (c .if3 .taken))
+
+shared-slice-read-if4 : tie.Need-shared-slice-read-if4
+shared-slice-read-if4 c = search needs
 
 returns-4 : tie.Need-returns-4
 unfolding causeBy
-returns-4 c = let d = sale (c .before) in rw (faultless (d .before .before), sold d, c .if3 .left)
+returns-4 c = let d = sale (c .before .before .before) in rw (faultless (d .before .before), sold d, c .if4 .taken)
+
+returns-5 : tie.Need-returns-5
+unfolding causeBy
+returns-5 c = let d = sale (c .before .before .before) in rw (faultless (d .before .before), sold d, c .if4 .left)
 
 pub line-cause-spec : {M : Type 1} → statement M
 line-cause-spec =
@@ -68,7 +71,8 @@ line-cause-spec =
     returns
     is-bilateral-requires
     returns-2
-    cast-if3
-    shared-slice-read-if3
+    cast-day
     returns-3
-    returns-4)
+    shared-slice-read-if4
+    returns-4
+    returns-5)
