@@ -30,51 +30,18 @@ secure-in-below t =
 abbrev known : ℕ → secure-in-lts.Claims
 known t = (needed-reads.Asked, needed-reads.Learnt, secure-on-reads.Asked, secure-on-reads.Learnt, secure-in-below t, secure-in.Post, secure-wide-reads.Asked, secure-wide-reads.Learnt, secure-large-reads.Asked, secure-large-reads.Learnt)
 
-secure-in-needed-requires : (t : ℕ) → secure-in-lts.Need-needed-requires (known t) (secure-in-at t) secure-in.Post
-secure-in-needed-requires t c κs = search needs
-
-secure-in-secure-on-requires : (t : ℕ) → secure-in-lts.Need-secure-on-requires (known t) (secure-in-at t) secure-in.Post
-secure-in-secure-on-requires t c κs = search needs
-
-secure-in-same-length : (t : ℕ) → secure-in-lts.Need-same-length (known t) (secure-in-at t) secure-in.Post
-secure-in-same-length t c = search needs
-
-secure-in-returns : (t : ℕ) → secure-in-lts.Need-returns (known t) (secure-in-at t) secure-in.Post
-secure-in-returns t c = search needs
-
-secure-in-slice-aggregate-secure-in : (t : ℕ) → secure-in-lts.Need-slice-aggregate-secure-in (known t) (secure-in-at t) secure-in.Post
-secure-in-slice-aggregate-secure-in t c = search needs
-
-secure-in-secure-in-requires : (t : ℕ) → secure-in-lts.Need-secure-in-requires (known t) (secure-in-at t) secure-in.Post
-secure-in-secure-in-requires t c κs = search needs
-
-secure-in-returns-2 : (t : ℕ) → secure-in-lts.Need-returns-2 (known t) (secure-in-at t) secure-in.Post
-secure-in-returns-2 t c = search needs
-
-secure-in-secure-wide-requires : (t : ℕ) → secure-in-lts.Need-secure-wide-requires (known t) (secure-in-at t) secure-in.Post
-secure-in-secure-wide-requires t c κs = search needs
-
-secure-in-returns-3 : (t : ℕ) → secure-in-lts.Need-returns-3 (known t) (secure-in-at t) secure-in.Post
-secure-in-returns-3 t c = search needs
-
-secure-in-secure-large-requires : (t : ℕ) → secure-in-lts.Need-secure-large-requires (known t) (secure-in-at t) secure-in.Post
-secure-in-secure-large-requires t c κs = needed-most 0 _
-
-secure-in-returns-4 : (t : ℕ) → secure-in-lts.Need-returns-4 (known t) (secure-in-at t) secure-in.Post
-secure-in-returns-4 t c = search needs
-
 pub +secure-in-spec : {M : Type 1} → statement M
 +secure-in-spec = close μ-secure-in λ t. secure-in-lts.spec (known t)
     (secure-in-at t)
     secure-in.Post
-    (secure-in-needed-requires t)
-    (secure-in-secure-on-requires t)
-    (secure-in-same-length t)
-    (secure-in-returns t)
-    (secure-in-slice-aggregate-secure-in t)
-    (secure-in-secure-in-requires t)
-    (secure-in-returns-2 t)
-    (secure-in-secure-wide-requires t)
-    (secure-in-returns-3 t)
-    (secure-in-secure-large-requires t)
-    (secure-in-returns-4 t)
+    (λ c κs. search needs)
+    (λ c κs. search needs)
+    (λ c. search needs)
+    (λ c. search needs)
+    (λ c. search needs)
+    (λ c κs. search needs)
+    (λ c. search needs)
+    (λ c κs. search needs)
+    (λ c. search needs)
+    (λ c κs. needed-most 0 _)
+    (λ c. search needs)

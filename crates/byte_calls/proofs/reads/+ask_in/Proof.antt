@@ -29,51 +29,18 @@ ask-in-below t = and 2 ask-in-kinds.ps (falls 2 ask-in-kinds.ps _<_ μ-ask-in t)
 abbrev known : ℕ → ask-in-lts.Claims
 known t = (needed-reads.Asked, needed-reads.Learnt, ask-on-reads.Asked, ask-on-reads.Learnt, ask-in-below t, ask-in.Post, ask-wide-reads.Asked, ask-wide-reads.Learnt, ask-large-reads.Asked, ask-large-reads.Learnt)
 
-ask-in-needed-requires : (t : ℕ) → ask-in-lts.Need-needed-requires (known t) (ask-in-at t) ask-in.Post
-ask-in-needed-requires t c κs = search needs
-
-ask-in-ask-on-requires : (t : ℕ) → ask-in-lts.Need-ask-on-requires (known t) (ask-in-at t) ask-in.Post
-ask-in-ask-on-requires t c κs = search needs
-
-ask-in-same-length : (t : ℕ) → ask-in-lts.Need-same-length (known t) (ask-in-at t) ask-in.Post
-ask-in-same-length t c = search needs
-
-ask-in-returns : (t : ℕ) → ask-in-lts.Need-returns (known t) (ask-in-at t) ask-in.Post
-ask-in-returns t c = search needs
-
-ask-in-slice-aggregate-ask-in : (t : ℕ) → ask-in-lts.Need-slice-aggregate-ask-in (known t) (ask-in-at t) ask-in.Post
-ask-in-slice-aggregate-ask-in t c = search needs
-
-ask-in-ask-in-requires : (t : ℕ) → ask-in-lts.Need-ask-in-requires (known t) (ask-in-at t) ask-in.Post
-ask-in-ask-in-requires t c κs = search needs
-
-ask-in-returns-2 : (t : ℕ) → ask-in-lts.Need-returns-2 (known t) (ask-in-at t) ask-in.Post
-ask-in-returns-2 t c = search needs
-
-ask-in-ask-wide-requires : (t : ℕ) → ask-in-lts.Need-ask-wide-requires (known t) (ask-in-at t) ask-in.Post
-ask-in-ask-wide-requires t c κs = search needs
-
-ask-in-returns-3 : (t : ℕ) → ask-in-lts.Need-returns-3 (known t) (ask-in-at t) ask-in.Post
-ask-in-returns-3 t c = search needs
-
-ask-in-ask-large-requires : (t : ℕ) → ask-in-lts.Need-ask-large-requires (known t) (ask-in-at t) ask-in.Post
-ask-in-ask-large-requires t c κs = needed-most 0 _
-
-ask-in-returns-4 : (t : ℕ) → ask-in-lts.Need-returns-4 (known t) (ask-in-at t) ask-in.Post
-ask-in-returns-4 t c = search needs
-
 pub +ask-in-spec : {M : Type 1} → statement M
 +ask-in-spec = close μ-ask-in λ t. ask-in-lts.spec (known t)
     (ask-in-at t)
     ask-in.Post
-    (ask-in-needed-requires t)
-    (ask-in-ask-on-requires t)
-    (ask-in-same-length t)
-    (ask-in-returns t)
-    (ask-in-slice-aggregate-ask-in t)
-    (ask-in-ask-in-requires t)
-    (ask-in-returns-2 t)
-    (ask-in-ask-wide-requires t)
-    (ask-in-returns-3 t)
-    (ask-in-ask-large-requires t)
-    (ask-in-returns-4 t)
+    (λ c κs. search needs)
+    (λ c κs. search needs)
+    (λ c. search needs)
+    (λ c. search needs)
+    (λ c. search needs)
+    (λ c κs. search needs)
+    (λ c. search needs)
+    (λ c κs. search needs)
+    (λ c. search needs)
+    (λ c κs. needed-most 0 _)
+    (λ c. search needs)
