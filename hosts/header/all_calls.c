@@ -5,7 +5,6 @@
 #define _DEFAULT_SOURCE
 #include "fanzsoreb.h"
 #include "fanzsoreb.h" /* twice does no harm */
-#include "words.h"
 
 #include "layout.h"
 #include "check.h"

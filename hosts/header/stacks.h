@@ -147,7 +147,7 @@ static const need calls[] = {
     NEED(delivery_words, WORDS, DONE),
     NEED(collateral_words, WORDS, DONE),
     NEED(month_words, WORDS, DONE),
-    NEED(no_words_for_a_file, WORDS, NOT_A_BOOK),
+    NEED(no_words_for_a_file, FILE_WORDS, NOT_A_BOOK), /* WORDS where a slice is refused before the file is read */
     NEED(no_words_to_control, WORDS, NOT_A_BOOK),
     NEED(no_day_to_control_words, WORDS, BAD_DAY),
     NEED(one_line_words, FILE_WORDS, DONE),

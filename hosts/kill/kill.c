@@ -5,7 +5,6 @@
  * Prints 'N passed, M failed'; the exit status is 1 if M is above 0. */
 #define _GNU_SOURCE
 #include "fanzsoreb.h"
-#include "../header/words.h"
 
 #include <stdio.h>
 #include <stdlib.h>
