@@ -1,5 +1,6 @@
 /* Every prototype, struct and constant of fanzsoreb.h, compiled as C99 and as C++17, and every call made on inputs
- * worked out by hand from document 01: done and refused, at any address, with null pointers, and by two threads.
+ * worked out by hand from document 01: done and refused, on words, on bytes at any address and by the header's choice,
+ * with null pointers, and by two threads.
  * Prints 'N passed, M failed'; the exit status is 1 if M is above 0. The argument `stacks` prints the stack that each
  * call used; any other one leaves it out, since valgrind does not let a program look at it. */
 #define _DEFAULT_SOURCE
@@ -8,35 +9,14 @@
 
 #include "layout.h"
 #include "check.h"
+#include "ways.h"
 #include "books.h"
 #include "positions.h"
 #include "collaterals.h"
 #include "days.h"
+#include "lengths.h"
 #include "threads.h"
 #include "stacks.h"
-
-/* A null pointer is for length 0: no byte is lent. */
-static void null_pointers(void)
-{
-    fanzsoreb_case c = FANZSOREB_SUPPLIER;
-    c.party = 1;
-    CHECK(fanzsoreb_is_book(NULL, 0) == 0);
-    CHECK(fanzsoreb_open(NULL, 0, 1001, 0) == FANZSOREB_BAD_LENGTH);
-    CHECK(fanzsoreb_open_default(NULL, 0) == FANZSOREB_BAD_LENGTH);
-    CHECK(fanzsoreb_post(NULL, 0, 0, 0, 0, 0, 0).answer == FANZSOREB_NOT_A_BOOK);
-    CHECK(fanzsoreb_withdraw(NULL, 0, 0) == FANZSOREB_NOT_A_BOOK);
-    CHECK(fanzsoreb_count(NULL, 0).answer == FANZSOREB_NOT_A_BOOK);
-    CHECK(fanzsoreb_entry(NULL, 0, 0).answer == FANZSOREB_NOT_A_BOOK);
-    CHECK(fanzsoreb_tally(NULL, 0, 0, 0).answer == FANZSOREB_NOT_A_BOOK);
-    CHECK(fanzsoreb_day_ahead(NULL, 0, 0, 0).answer == FANZSOREB_NOT_A_BOOK);
-    CHECK(fanzsoreb_delivery(NULL, 0, 0, 0).answer == FANZSOREB_NOT_A_BOOK);
-    CHECK(fanzsoreb_month(NULL, 0, NULL, 0, 1, NULL, 0, 0).answer == FANZSOREB_DONE);
-    CHECK(fanzsoreb_collateral_of(NULL, 0, &c).answer == FANZSOREB_NOT_A_BOOK);
-    CHECK(fanzsoreb_control(NULL, 0, 0).answer == FANZSOREB_NOT_A_BOOK);
-    CHECK(fanzsoreb_read_file(NULL, 0, NULL, 0).answer == FANZSOREB_NOT_A_BOOK);
-    fresh(0);
-    REFUSED(fanzsoreb_read_file(book, lent, NULL, 0).answer, FANZSOREB_DONE); /* an empty file */
-}
 
 static void cause_names(void)
 {
@@ -52,7 +32,7 @@ static void cause_names(void)
     CHECK(strcmp(fanzsoreb_cause_name(4294967295u), "unknown") == 0);
 }
 
-/* Every call on lent bytes, at one address. */
+/* Every call on lent memory, in one way and at one address. */
 static void at_offset(size_t offset)
 {
     is_book(offset);
@@ -85,25 +65,45 @@ static void at_offset(size_t offset)
     files_of_updates(offset);
     largest_trading(offset);
     files_refused(offset);
+    shortest(offset);
+    if (by != WORDS) {
+        odd_lengths(offset);
+        odd_months(offset);
+    }
+}
+
+/* Words stand at multiples of 4, of which one is no multiple of 8. */
+static void in_each_way(void)
+{
+    static const char *const names[WAYS] = { "words", "bytes", "the header's choice" };
+    size_t offset;
+    for (by = WORDS; by < WAYS; by++) {
+        for (offset = 0; offset <= (by == WORDS ? 4 : 3); offset += by == WORDS ? 4 : 1) {
+            snprintf(where, sizeof where, " (%s at offset %lu)", names[by], (unsigned long)offset);
+            at_offset(offset);
+        }
+        null_pointers();
+        if (by != WORDS)
+            tables_apart();
+        sample(1);
+        money(by == BYTES ? 1 : 0);
+        two_threads(read_often);
+        two_threads(write_often);
+    }
 }
 
 int main(int count, char **arguments)
 {
     int print = count == 2 && strcmp(arguments[1], "stacks") == 0;
-    size_t offset;
     if (count < 2 || print)
         stacks(print);
     CHECK(fanzsoreb_version() == FANZSOREB_VERSION);
     detection();
     ceilings();
     first_days();
-    for (offset = 0; offset < 4; offset++)
-        at_offset(offset);
-    null_pointers();
+    aligned();
     cause_names();
-    money(1);
-    two_threads(read_often);
-    two_threads(write_often);
+    in_each_way();
     printf("%u passed, %u failed\n", passed, failed);
     return failed == 0 ? 0 : 1;
 }

@@ -6,6 +6,7 @@
 #include <string.h>
 
 static unsigned passed, failed;
+static char where[64]; /* the way of the calls and their address */
 
 static void check(int held, const char *what, int line)
 {
@@ -14,23 +15,24 @@ static void check(int held, const char *what, int line)
         return;
     }
     failed++;
-    printf("FAIL line %d: %s\n", line, what);
+    printf("FAIL line %d%s: %s\n", line, where, what);
 }
 
 #define CHECK(condition) check((condition) ? 1 : 0, #condition, __LINE__)
 
-/* The book stands in the memory at any offset, with bytes before and after it that are not lent. */
-#define BEFORE 64
-#define BEYOND 256
-static uint8_t memory[BEFORE + FANZSOREB_BOOK_BYTES + BEYOND];
-static uint8_t expected[sizeof memory];
+/* The book stands in the memory at any offset, with bytes before and after it that are not lent. The memory is words:
+ * at offset 0 the address is a multiple of 4. */
+enum { BEFORE = 64, BEYOND = 256, MEMORY = BEFORE + FANZSOREB_BOOK_BYTES + BEYOND };
+static uint32_t memory_words[MEMORY / 4];
+static uint8_t *const memory = (uint8_t *)memory_words;
+static uint8_t expected[MEMORY];
 static uint8_t *book;
 static size_t lent;
 
 /* A book at an offset, its memory filled with a byte. */
 static void lend(size_t offset, size_t length, int fill)
 {
-    memset(memory, fill, sizeof memory);
+    memset(memory, fill, MEMORY);
     book = memory + BEFORE + offset;
     lent = length;
 }
@@ -38,7 +40,7 @@ static void lend(size_t offset, size_t length, int fill)
 /* The bytes are to be as they are now, but for the words then put. */
 static void keep(void)
 {
-    memcpy(expected, memory, sizeof memory);
+    memcpy(expected, memory, MEMORY);
 }
 
 static void store(uint8_t *bytes, size_t i, uint32_t word)
@@ -56,7 +58,7 @@ static void put(size_t i, uint32_t word)
 
 static int as_expected(void)
 {
-    return memcmp(memory, expected, sizeof memory) == 0;
+    return memcmp(memory, expected, MEMORY) == 0;
 }
 
 /* A refused call: its cause, and every byte as it was. */

@@ -2,7 +2,7 @@
 
 static uint32_t collateral_cause(const fanzsoreb_case *c)
 {
-    fanzsoreb_collateral_answer a = fanzsoreb_collateral_of(book, lent, c);
+    fanzsoreb_collateral_answer a = way_collateral(book, lent, c);
     CHECK(a.answer == FANZSOREB_DONE || (a.margin | a.trading | a.imbalance | a.risk | a.yek | a.total) == 0);
     return a.answer;
 }
@@ -56,9 +56,18 @@ static void plain_supplier(size_t offset)
     fresh(offset);
     CHECK(collateral_cause(&c) == FANZSOREB_BAD_PARTY);
     c.party = 1;
-    a = fanzsoreb_collateral_of(book, lent, &c);
+    a = way_collateral(book, lent, &c);
     CHECK(a.answer == FANZSOREB_DONE && a.margin == 20000000 && a.total == 20000000);
     CHECK((a.trading | a.imbalance | a.risk | a.yek) == 0);
+}
+
+/* The same case as single figures, which words and bytes have. */
+#define GENERATOR 5, 100, 2, 50001, 0, 0, 1, 1, 175000, -1000, 90000, -2001, 0, 0, 2, 110, 7, 1000, 1, 3
+
+static fanzsoreb_collateral_answer by_figures(size_t length)
+{
+    return by == WORDS ? fanzsoreb_collateral_words(of_words(book), words_of(length), GENERATOR)
+                       : fanzsoreb_collateral(book, length, GENERATOR);
 }
 
 static void items(size_t offset)
@@ -67,18 +76,17 @@ static void items(size_t offset)
     fanzsoreb_collateral_answer a;
     money(offset);
     keep();
-    a = fanzsoreb_collateral_of(book, lent, &c);
+    a = way_collateral(book, lent, &c);
     CHECK(a.answer == FANZSOREB_DONE && a.margin == 1000020); /* 20 x 50,001 */
     CHECK(a.trading == 1470);      /* (900 + 0 + 100 + 400) x 21 x 4 / 80 */
     CHECK(a.imbalance == 385193);  /* 110 x 175,000 x 2,001 / 100,000, rounded up */
     CHECK(a.risk == 7 && a.yek == 667); /* 1,000 x 10 / 15, rounded up */
     CHECK(a.total == 1385887);     /* 1,000,020 + 385,193 + 7 + 667 */
-    a = fanzsoreb_collateral(book, lent, 5, 100, 2, 50001, 0, 0, 1, 1, 175000, -1000, 90000, -2001, 0, 0, 2, 110, 7,
-                             1000, 1, 3);
+    a = by_figures(lent);
     CHECK(a.answer == FANZSOREB_DONE && a.margin == 1000020 && a.trading == 1470 && a.imbalance == 385193);
     CHECK(a.risk == 7 && a.yek == 667 && a.total == 1385887);
-    a = fanzsoreb_collateral(book, lent - 1, 5, 100, 2, 50001, 0, 0, 1, 1, 0, 0, 0, 0, 0, 0, 0, 0, 0, 0, 0, 1);
-    CHECK(a.answer == FANZSOREB_NOT_A_BOOK && a.margin == 0 && a.total == 0);
+    a = by_figures(12 + 6 * 20 + 16); /* seven entries */
+    CHECK(a.answer == FANZSOREB_NOT_A_BOOK && (a.margin | a.trading | a.imbalance | a.risk | a.yek | a.total) == 0);
     CHECK(as_expected());
 }
 
@@ -88,8 +96,8 @@ static void update_beside_money(size_t offset)
     fanzsoreb_case c = generator();
     money(offset);
     update(5, 99, 1000000000);
-    CHECK(fanzsoreb_collateral_of(book, lent, &c).trading == 1470);
-    CHECK(fanzsoreb_collateral_of(book, lent, &c).total == 1385887);
+    CHECK(way_collateral(book, lent, &c).trading == 1470);
+    CHECK(way_collateral(book, lent, &c).total == 1385887);
 }
 
 static void figures_of_a_case(size_t offset)
@@ -97,26 +105,26 @@ static void figures_of_a_case(size_t offset)
     fanzsoreb_case c = generator();
     money(offset);
     c.nonbusiness = 3; /* k 4: day 96 too */
-    CHECK(fanzsoreb_collateral_of(book, lent, &c).trading == 6720); /* 6,400 x 21 x 4 / 80 */
+    CHECK(way_collateral(book, lent, &c).trading == 6720); /* 6,400 x 21 x 4 / 80 */
     c.holiday = 1;
-    CHECK(fanzsoreb_collateral_of(book, lent, &c).trading == 5040); /* 6,400 x 21 x 3 / 80 */
+    CHECK(way_collateral(book, lent, &c).trading == 5040); /* 6,400 x 21 x 3 / 80 */
     c.used = 1;
-    CHECK(fanzsoreb_collateral_of(book, lent, &c).imbalance == 192500); /* 110 x 175,000 x 1,000 / 100,000 */
+    CHECK(way_collateral(book, lent, &c).imbalance == 192500); /* 110 x 175,000 x 1,000 / 100,000 */
     c.used = 3;
     c.rk = 500;
     c.months[2].aosmf = 1000000;
     c.months[2].aedm = -14900000000;
-    CHECK(fanzsoreb_collateral_of(book, lent, &c).imbalance == 74500000000000);
+    CHECK(way_collateral(book, lent, &c).imbalance == 74500000000000);
     c.responsible = 0;
-    CHECK(fanzsoreb_collateral_of(book, lent, &c).imbalance == 0);
-    CHECK(fanzsoreb_collateral_of(book, lent, &c).risk == 0);
+    CHECK(way_collateral(book, lent, &c).imbalance == 0);
+    CHECK(way_collateral(book, lent, &c).risk == 0);
     c.licence = 1;
-    CHECK(fanzsoreb_collateral_of(book, lent, &c).margin == 20000000);
+    CHECK(way_collateral(book, lent, &c).margin == 20000000);
     c.score = 3; /* a fifth of 1,000 */
-    CHECK(fanzsoreb_collateral_of(book, lent, &c).yek == 200);
-    CHECK(fanzsoreb_collateral_of(book, lent, &c).total == 20000200);
+    CHECK(way_collateral(book, lent, &c).yek == 200);
+    CHECK(way_collateral(book, lent, &c).total == 20000200);
     c.party = 6; /* trading above margin: 10^12 x 21 x 3 / 80 */
-    CHECK(fanzsoreb_collateral_of(book, lent, &c).total == 787500000200);
+    CHECK(way_collateral(book, lent, &c).total == 787500000200);
 }
 
 /* One figure of the generator's case out of its range. */

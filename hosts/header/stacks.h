@@ -1,28 +1,32 @@
-/* The stack that each call needs, on full books and the largest tables: measured on a painted stack, and held to the
- * stated sizes by threads that have no more. */
+/* The stack that each call needs, on full books and the largest tables, and on bytes of smaller books: measured on a
+ * painted stack, and held to the stated sizes by threads that have no more. */
 #include <limits.h>
 #include <stdlib.h>
 #include <sys/mman.h>
 #include <sys/wait.h>
 #include <unistd.h>
 
-static uint32_t book_words[FANZSOREB_BOOK_BYTES / 4], price_words[745];
+static uint32_t book_words[FANZSOREB_BOOK_WORDS], price_words[745];
 static int32_t imbalance_words[745 * 64], dm_words[745];
 static uint8_t long_file[FANZSOREB_MOST_FILE_BYTES];
-enum { FULL_WORDS = FANZSOREB_BOOK_BYTES / 4, LONG_FILE = 8 + 12 * 3072, ONE_LINE = 8 + 12 };
+enum { FULL_WORDS = FANZSOREB_BOOK_WORDS, FULL = 3071, LONG_FILE = 8 + 12 * 3072, ONE_LINE = 8 + 12 };
+static uint32_t last;
 
-/* 3,071 entries, room for one. Party 1 sells to 2 and 2 to 3 on day 9,001, and 1 sold to 2 on 9,000, which was
- * cancelled: a control of 9,001 cancels both sales, the second one in its second pass. The same at an odd address. */
-static void full_book(void)
+/* Words of 3,071 entries, and in word 0 the number asked, so that just these are the book's. Party 1 sells to 2 and
+ * 2 to 3 on day 9,001, and 1 sold to 2 on 9,000, which was cancelled: a control of 9,001 cancels both sales, the second
+ * one in its second pass. The same at an odd address. */
+static void book_of(uint32_t entries, size_t length)
 {
     static const uint32_t first[] = {
-        0x60000BFF, 0x70000069, 0x8007A120,
+        0x60000000, 0x70000069, 0x8007A120,
         0x10000001, 0x20002328, 0x32000206, 0x400AAE60, 0x50000000,
         0x10000001, 0x20002329, 0x30000206, 0x400AAE60, 0x50000000,
         0x10000002, 0x20002329, 0x30000306, 0x400AAE60, 0x50000000
     };
     size_t i;
+    last = entries - 1;
     memcpy(book_words, first, sizeof first);
+    book_words[0] += entries;
     for (i = 3; i < FANZSOREB_MOST_ENTRIES; i++) {
         book_words[3 + 5 * i] = 0x10000004 + (uint32_t)i % 900;
         book_words[4 + 5 * i] = 0x20002329;
@@ -30,7 +34,7 @@ static void full_book(void)
         book_words[6 + 5 * i] = 0x40000001;
         book_words[7 + 5 * i] = 0x50000000;
     }
-    lend(1, FANZSOREB_BOOK_BYTES, 0xEE);
+    lend(1, length, 0xEE);
     for (i = 0; i < FULL_WORDS; i++)
         store(book, i, book_words[i]);
 }
@@ -58,7 +62,7 @@ static void full_tables(void)
     }
 }
 
-/* The file's block of so many lines, for a book of 3,071 entries or, if they are more than one, for one of none. */
+/* The file's block of so many lines, for a book as it is or, if they are more than one, for one of no entries. */
 static const uint8_t *file_of(uint32_t lines)
 {
     store(long_file, 0, 0x10000001 + lines * 65536);
@@ -90,7 +94,7 @@ CALL(on_open_default, fanzsoreb_open_default(book, lent))
 CALL(on_post, fanzsoreb_post(book, lent, 1, 9001, 6, 2, 1).answer)
 CALL(on_withdraw, fanzsoreb_withdraw(book, lent, 1))
 CALL(on_count, fanzsoreb_count(book, lent).answer)
-CALL(on_entry, fanzsoreb_entry(book, lent, 3070).answer)
+CALL(on_entry, fanzsoreb_entry(book, lent, last).answer)
 CALL(on_tally, fanzsoreb_tally(book, lent, 1, 9001).answer)
 CALL(on_day_ahead, fanzsoreb_day_ahead(book, lent, 1, 9001).answer)
 CALL(on_delivery, fanzsoreb_delivery(book, lent, 1, 9001).answer)
@@ -98,26 +102,39 @@ CALL(on_collateral, fanzsoreb_collateral_of(book, lent, &asked).answer)
 CALL(on_one_line, fanzsoreb_read_file(book, lent, file_of(1), ONE_LINE).answer)
 CALL(on_long_file, fanzsoreb_read_file(book, lent, file_of(3072), LONG_FILE).answer)
 CALL(on_control, fanzsoreb_control(book, lent, 9001).second != 1)
-CALL(on_month, month(745, 745 * 64, 64, 63).answer)
+CALL(on_month, fanzsoreb_month(prices, 4 * 745, imbalance, 4 * 745 * 64, 64, dm, 4 * 745, 63).answer)
 CALL(is_book_words, fanzsoreb_is_book_words(book_words, FULL_WORDS) != 1)
 CALL(open_words, fanzsoreb_open_words(book_words, FULL_WORDS, 110, 0))
 CALL(open_default_words, fanzsoreb_open_default_words(book_words, FULL_WORDS))
 CALL(post_words, fanzsoreb_post_words(book_words, FULL_WORDS, 1, 9001, 6, 2, 1).answer)
 CALL(withdraw_words, fanzsoreb_withdraw_words(book_words, FULL_WORDS, 1))
 CALL(count_words, fanzsoreb_count_words(book_words, FULL_WORDS).answer)
-CALL(entry_words, fanzsoreb_entry_words(book_words, FULL_WORDS, 3070).answer)
+CALL(entry_words, fanzsoreb_entry_words(book_words, FULL_WORDS, last).answer)
 CALL(tally_words, fanzsoreb_tally_words(book_words, FULL_WORDS, 1, 9001).answer)
 CALL(day_ahead_words, fanzsoreb_day_ahead_words(book_words, FULL_WORDS, 1, 9001).answer)
 CALL(delivery_words, fanzsoreb_delivery_words(book_words, FULL_WORDS, 1, 9001).answer)
-CALL(collateral_words,
-     fanzsoreb_collateral_words(book_words, FULL_WORDS, asked.party, asked.day, asked.licence, asked.capacity, 0, 0,
-                                asked.defaults, 1, asked.months[0].aosmf, asked.months[0].aedm, asked.months[1].aosmf,
-                                asked.months[1].aedm, 0, 0, asked.used, asked.rk, asked.rt, asked.yt, asked.score,
-                                asked.best).answer)
+CALL(collateral_words, fanzsoreb_collateral_of_words(book_words, FULL_WORDS, &asked).answer)
 CALL(one_line_words, fanzsoreb_read_file_words(book_words, FULL_WORDS, file_of(1), ONE_LINE).answer)
 CALL(long_file_words, fanzsoreb_read_file_words(book_words, FULL_WORDS, file_of(3072), LONG_FILE).answer)
 CALL(control_words, fanzsoreb_control_words(book_words, FULL_WORDS, 9001).second != 1)
 CALL(month_words, fanzsoreb_month_words(price_words, 745, imbalance_words, 745 * 64, 64, dm_words, 745, 63).answer)
+
+/* The header's choice on words takes no more stack than words do: it goes by words. */
+CALL(is_book_any, fanzsoreb_is_book_any(book_words, FANZSOREB_BOOK_BYTES) != 1)
+CALL(open_any, fanzsoreb_open_any(book_words, FANZSOREB_BOOK_BYTES, 110, 0))
+CALL(open_default_any, fanzsoreb_open_default_any(book_words, FANZSOREB_BOOK_BYTES))
+CALL(post_any, fanzsoreb_post_any(book_words, FANZSOREB_BOOK_BYTES, 1, 9001, 6, 2, 1).answer)
+CALL(withdraw_any, fanzsoreb_withdraw_any(book_words, FANZSOREB_BOOK_BYTES, 1))
+CALL(count_any, fanzsoreb_count_any(book_words, FANZSOREB_BOOK_BYTES).answer)
+CALL(entry_any, fanzsoreb_entry_any(book_words, FANZSOREB_BOOK_BYTES, last).answer)
+CALL(tally_any, fanzsoreb_tally_any(book_words, FANZSOREB_BOOK_BYTES, 1, 9001).answer)
+CALL(day_ahead_any, fanzsoreb_day_ahead_any(book_words, FANZSOREB_BOOK_BYTES, 1, 9001).answer)
+CALL(delivery_any, fanzsoreb_delivery_any(book_words, FANZSOREB_BOOK_BYTES, 1, 9001).answer)
+CALL(collateral_any, fanzsoreb_collateral_of_any(book_words, FANZSOREB_BOOK_BYTES, &asked).answer)
+CALL(long_file_any, fanzsoreb_read_file_any(book_words, FANZSOREB_BOOK_BYTES, file_of(3072), LONG_FILE).answer)
+CALL(control_any, fanzsoreb_control_any(book_words, FANZSOREB_BOOK_BYTES, 9001).second != 1)
+CALL(month_any,
+     fanzsoreb_month_any(price_words, 4 * 745, imbalance_words, 4 * 745 * 64, 64, dm_words, 4 * 745, 63).answer)
 
 /* Refused before any sum: no book, or no such day. */
 CALL(no_book_to_control, fanzsoreb_control(book + 4, lent - 4, 9001).answer)
@@ -127,9 +144,10 @@ CALL(no_words_to_control, fanzsoreb_control_words(book_words + 1, FULL_WORDS - 1
 CALL(no_day_to_control_words, fanzsoreb_control_words(book_words, FULL_WORDS, 36525).answer)
 CALL(no_words_for_a_file, fanzsoreb_read_file_words(book_words + 1, FULL_WORDS - 1, file_of(1), ONE_LINE).answer)
 
-/* A call, the stack stated for it, and what it answers. */
-typedef struct { const char *name; void *(*call)(void *); size_t stated; uint32_t cause; } need;
-#define NEED(call, stated, cause) { #call, call, FANZSOREB_STACK_##stated, FANZSOREB_##cause }
+/* A call, the stack stated for it, what it answers, and the book that it is made on. */
+typedef struct { const char *name; void *(*call)(void *); size_t stated; uint32_t cause, entries; size_t length; } need;
+#define NEED(call, stated, cause) \
+    { #call, call, FANZSOREB_STACK_##stated, FANZSOREB_##cause, FULL, FANZSOREB_BOOK_BYTES }
 static const need calls[] = {
     NEED(on_version, FIGURES, DONE),
     NEED(on_detected, FIGURES, DONE),
@@ -153,6 +171,20 @@ static const need calls[] = {
     NEED(one_line_words, FILE_WORDS, DONE),
     NEED(long_file_words, FILE_WORDS, DONE),
     NEED(control_words, CONTROL_WORDS, DONE),
+    NEED(is_book_any, WORDS, DONE),
+    NEED(open_any, WORDS, DONE),
+    NEED(open_default_any, WORDS, DONE),
+    NEED(post_any, WORDS, DONE),
+    NEED(withdraw_any, WORDS, DONE),
+    NEED(count_any, WORDS, DONE),
+    NEED(entry_any, WORDS, DONE),
+    NEED(tally_any, WORDS, DONE),
+    NEED(day_ahead_any, WORDS, DONE),
+    NEED(delivery_any, WORDS, DONE),
+    NEED(collateral_any, WORDS, DONE),
+    NEED(long_file_any, FILE_WORDS, DONE),
+    NEED(control_any, CONTROL_WORDS, DONE),
+    NEED(month_any, WORDS, DONE),
     NEED(on_is_book, BOOK, DONE),
     NEED(on_open, BOOK, DONE),
     NEED(on_open_default, BOOK, DONE),
@@ -174,6 +206,52 @@ static const need calls[] = {
 };
 enum { CALLS = sizeof calls / sizeof calls[0] };
 
+/* The calls on a book's bytes again: what is stated for words, and what the copy of a smaller book adds. */
+static const need byte_calls[] = {
+    NEED(on_is_book, WORDS, DONE),
+    NEED(on_open, WORDS, DONE),
+    NEED(on_open_default, WORDS, DONE),
+    NEED(on_post, WORDS, DONE),
+    NEED(on_withdraw, WORDS, DONE),
+    NEED(on_count, WORDS, DONE),
+    NEED(on_entry, WORDS, DONE),
+    NEED(on_tally, WORDS, DONE),
+    NEED(on_day_ahead, WORDS, DONE),
+    NEED(on_delivery, WORDS, DONE),
+    NEED(on_collateral, WORDS, DONE),
+    NEED(on_one_line, FILE_WORDS, DONE),
+    NEED(on_control, CONTROL_WORDS, DONE)
+};
+enum { BYTE_CALLS = sizeof byte_calls / sizeof byte_calls[0], BUT_FILE_AND_CONTROL = BYTE_CALLS - 2 };
+
+/* Books, the stack that their copy adds to the thread's, and the most that a call takes, but for a file or control, in
+ * whole KiB. The second is no book: 500 bytes have no words for 25 entries, and its number of entries is no book's. */
+static const struct { uint32_t entries; size_t length, added, taken; } sizes[] = {
+    { 25, FANZSOREB_BOOK_BYTES, 4 * 1024, 6 * 1024 },
+    { 0x0FFFFFFF, 500, 4 * 1024, 6 * 1024 },
+    { 127, FANZSOREB_BOOK_BYTES, 8 * 1024, 8 * 1024 },
+    { 768, FANZSOREB_BOOK_BYTES, 20 * 1024, 21 * 1024 }
+};
+enum { SIZES = sizeof sizes / sizeof sizes[0], TAKEN_BY_A_FULL_BOOK = 66 * 1024 };
+
+static need sized(size_t size, size_t call)
+{
+    need n = byte_calls[call];
+    n.stated += sizes[size].added;
+    n.entries = sizes[size].entries;
+    n.length = sizes[size].length;
+    if (n.entries > FULL && n.call != on_open && n.call != on_open_default)
+        n.cause = FANZSOREB_NOT_A_BOOK; /* 1 is what the calls without a cause answer then */
+    return n;
+}
+
+static const char *label(const need *n)
+{
+    static char text[80];
+    snprintf(text, sizeof text, "%s on %u entries in %lu bytes", n->name, n->entries, (unsigned long)n->length);
+    return n->entries == FULL ? n->name : text;
+}
+
 /* A call in a thread with this stack; whether there was such a thread, and the call answered as it is to. */
 static int in_thread(const need *n, uint8_t *stack, size_t size)
 {
@@ -194,9 +272,9 @@ enum { STACK = 1 << 20, GUARD = 1 << 20 };
 static size_t used_by(const need *n, uint8_t *stack)
 {
     size_t free_bytes = 0;
-    full_book();
+    book_of(n->entries, n->length);
     n->call(NULL);
-    full_book();
+    book_of(n->entries, n->length);
     memset(stack, 0xA5, STACK);
     CHECK(in_thread(n, stack, STACK));
     while (free_bytes < STACK && stack[free_bytes] == 0xA5)
@@ -210,7 +288,7 @@ static int fits(const need *n, size_t size)
 {
     int status = 1;
     pid_t child;
-    full_book();
+    book_of(n->entries, n->length);
     fflush(stdout);
     child = fork();
     if (child == 0) {
@@ -237,27 +315,49 @@ static void *too_deep(void *unused)
 static void stacks_stated(void)
 {
     static const need deep = NEED(too_deep, FIGURES, DONE);
-    size_t i;
+    size_t i, k;
+    need n;
     CHECK(FANZSOREB_STACK_FIGURES >= PTHREAD_STACK_MIN && !fits(&deep, deep.stated) && fits(&deep, 8 * deep.stated));
     for (i = 0; i < CALLS; i++)
         check(fits(&calls[i], calls[i].stated), calls[i].name, __LINE__);
+    for (k = 0; k < SIZES; k++)
+        for (i = 0; i < BYTE_CALLS; i++) {
+            n = sized(k, i);
+            check(fits(&n, n.stated), label(&n), __LINE__);
+        }
 }
 
 /* With `print` a line a call: what it used beyond a thread that makes none, the whole thread, and the stated size. */
+static size_t measured(const need *n, uint8_t *stack, size_t without, int print)
+{
+    size_t with = used_by(n, stack);
+    check(with <= n->stated, label(n), __LINE__);
+    if (print || with > n->stated)
+        printf("%s: %lu bytes of stack, %lu with the thread's own, %lu stated\n", label(n),
+               (unsigned long)(with - without), (unsigned long)with, (unsigned long)n->stated);
+    return with - without;
+}
+
 static void stacks_used(int print)
 {
     static const need idle = NEED(on_nothing, FIGURES, DONE);
     uint8_t *stack = (uint8_t *)mmap(NULL, STACK, PROT_READ | PROT_WRITE, MAP_PRIVATE | MAP_ANONYMOUS, -1, 0);
-    size_t i, without, with;
+    size_t i, k, without, used;
+    need n;
     CHECK(stack != MAP_FAILED);
     without = used_by(&idle, stack);
     for (i = 0; i < CALLS; i++) {
-        with = used_by(&calls[i], stack);
-        check(with <= calls[i].stated, calls[i].name, __LINE__);
-        if (print || with > calls[i].stated)
-            printf("%s: %lu bytes of stack, %lu with the thread's own, %lu stated\n", calls[i].name,
-                   (unsigned long)(with - without), (unsigned long)with, (unsigned long)calls[i].stated);
+        used = measured(&calls[i], stack, without, print);
+        if (calls[i].stated == FANZSOREB_STACK_BOOK)
+            check(used <= TAKEN_BY_A_FULL_BOOK, calls[i].name, __LINE__);
     }
+    for (k = 0; k < SIZES; k++)
+        for (i = 0; i < BYTE_CALLS; i++) {
+            n = sized(k, i);
+            used = measured(&n, stack, without, print);
+            if (i < BUT_FILE_AND_CONTROL)
+                check(used <= sizes[k].taken, label(&n), __LINE__);
+        }
     munmap(stack, STACK);
 }
 

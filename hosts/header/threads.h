@@ -1,4 +1,4 @@
-/* Several threads at once. */
+/* Several threads at once, in the way chosen. */
 #include <pthread.h>
 
 /* One book read by two threads: faults counted by each. */
@@ -8,29 +8,33 @@ static void *read_often(void *faults)
     fanzsoreb_case c = generator();
     int i;
     for (i = 0; i < 300; i++) {
-        *wrong += fanzsoreb_is_book(book, lent) != 1;
-        *wrong += fanzsoreb_count(book, lent).count != 7;
-        *wrong += fanzsoreb_entry(book, lent, 3).amount != 5000;
-        *wrong += fanzsoreb_tally(book, lent, 5, 90).tally.party != 5;
-        *wrong += fanzsoreb_day_ahead(book, lent, 5, 99).balance != -50000000;
-        *wrong += fanzsoreb_delivery(book, lent, 5, 99).balance != -50000000;
-        *wrong += fanzsoreb_collateral_of(book, lent, &c).total != 1385887;
+        *wrong += way_is_book(book, lent) != 1;
+        *wrong += way_count(book, lent).count != 7;
+        *wrong += way_entry(book, lent, 3).amount != 5000;
+        *wrong += way_tally(book, lent, 5, 90).tally.party != 5;
+        *wrong += way_day_ahead(book, lent, 5, 99).balance != -50000000;
+        *wrong += way_delivery(book, lent, 5, 99).balance != -50000000;
+        *wrong += way_collateral(book, lent, &c).total != 1385887;
     }
     return NULL;
 }
 
-/* A book of each thread's own. */
+/* A book of each thread's own, and one file for both: the sample's two lines, of another day. */
 static void *write_often(void *faults)
 {
     unsigned *wrong = (unsigned *)faults;
-    uint8_t own[12 + 20 * 100];
+    uint32_t words[3 + 5 * 102];
+    uint8_t *own = (uint8_t *)words;
     uint32_t i;
-    memset(own, 0, sizeof own);
-    *wrong += fanzsoreb_open_default(own, sizeof own) != FANZSOREB_DONE;
+    memset(own, 0, sizeof words);
+    *wrong += way_open_default(own, sizeof words) != FANZSOREB_DONE;
+    *wrong += way_open(own, sizeof words, 105, 500000) != FANZSOREB_DONE;
     for (i = 0; i < 99; i++)
-        *wrong += fanzsoreb_post(own, sizeof own, 1 + i, 9000, FANZSOREB_DAY_AHEAD_SALE, 0, 500001).number != i;
-    *wrong += fanzsoreb_control(own, sizeof own, 9000).first != 99;
-    *wrong += fanzsoreb_count(own, sizeof own).count != 100;
+        *wrong += way_post(own, sizeof words, 1 + i, 9001, FANZSOREB_DAY_AHEAD_SALE, 0, 500001).number != i;
+    *wrong += way_withdraw(own, sizeof words, 98) != FANZSOREB_DONE;
+    *wrong += way_read_file(own, sizeof words, file, 40).posted != 2;
+    *wrong += way_control(own, sizeof words, 9001).first != 98;
+    *wrong += way_count(own, sizeof words).count != 102;
     return NULL;
 }
 
