@@ -22,7 +22,7 @@ class Collateral(ctypes.Structure):
 
 
 lib = ctypes.CDLL(sys.argv[1])
-book = (ctypes.c_uint8 * 61452)()
+book = (u32 * 15363)()
 
 
 def call(name, result, *types):
@@ -33,13 +33,13 @@ def call(name, result, *types):
 
 memory = (ctypes.c_void_p, size)
 version = call("version", u32)
-open_default = call("open_default", u32, *memory)
-post = call("post", Posted, *memory, u32, u32, u32, u32, u64)
-count = call("count", Counted, *memory)
-day_ahead = call("day_ahead", Balance, *memory, u32, u32)
-delivery = call("delivery", Balance, *memory, u32, u32)
+open_default = call("open_default_words", u32, *memory)
+post = call("post_words", Posted, *memory, u32, u32, u32, u32, u64)
+count = call("count_words", Counted, *memory)
+day_ahead = call("day_ahead_words", Balance, *memory, u32, u32)
+delivery = call("delivery_words", Balance, *memory, u32, u32)
 detected = call("detected", u32, i64)
-collateral = call("collateral", Collateral, *memory, u32, u32, u32, u64, u32, u32, u32, u32,
+collateral = call("collateral_words", Collateral, *memory, u32, u32, u32, u64, u32, u32, u32, u32,
                   u64, i64, u64, i64, u64, i64, u32, u32, u64, u64, u32, u32)
 
 lent = (book, len(book))

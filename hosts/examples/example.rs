@@ -31,47 +31,51 @@ struct Collateral {
 #[allow(dead_code)]
 extern "C" {
     fn fanzsoreb_version() -> u32;
-    fn fanzsoreb_open_default(book: *mut u8, length: usize) -> u32;
-    fn fanzsoreb_post(book: *mut u8, length: usize, party: u32, day: u32, entry_type: u32, counterparty: u32, amount: u64) -> Posted;
-    fn fanzsoreb_count(book: *const u8, length: usize) -> Counted;
-    fn fanzsoreb_day_ahead(book: *const u8, length: usize, party: u32, day: u32) -> Balance;
-    fn fanzsoreb_delivery(book: *const u8, length: usize, party: u32, day: u32) -> Balance;
+    fn fanzsoreb_open_default_words(book: *mut u32, words: usize) -> u32;
+    fn fanzsoreb_post_words(
+        book: *mut u32, words: usize, party: u32, day: u32, entry_type: u32, counterparty: u32, amount: u64,
+    ) -> Posted;
+    fn fanzsoreb_count_words(book: *const u32, words: usize) -> Counted;
+    fn fanzsoreb_day_ahead_words(book: *const u32, words: usize, party: u32, day: u32) -> Balance;
+    fn fanzsoreb_delivery_words(book: *const u32, words: usize, party: u32, day: u32) -> Balance;
     fn fanzsoreb_detected(balance: i64) -> u32;
     #[allow(clippy::too_many_arguments)]
-    fn fanzsoreb_collateral(
-        book: *const u8, length: usize, party: u32, day: u32, licence: u32, capacity: u64, nonbusiness: u32, holiday: u32,
-        defaults: u32, responsible: u32, aosmf1: u64, aedm1: i64, aosmf2: u64, aedm2: i64, aosmf3: u64, aedm3: i64,
-        used: u32, rk: u32, rt: u64, yt: u64, score: u32, best: u32,
+    fn fanzsoreb_collateral_words(
+        book: *const u32, words: usize, party: u32, day: u32, licence: u32, capacity: u64, nonbusiness: u32,
+        holiday: u32, defaults: u32, responsible: u32, aosmf1: u64, aedm1: i64, aosmf2: u64, aedm2: i64,
+        aosmf3: u64, aedm3: i64, used: u32, rk: u32, rt: u64, yt: u64, score: u32, best: u32,
     ) -> Collateral;
 }
 
-// A book that owns its bytes. Every call may be made with any figures.
-struct Book(Vec<u8>);
+// A book that owns its words. Every call may be made with any figures.
+struct Book(Vec<u32>);
 
 impl Book {
     fn open() -> (Book, u32) {
-        let mut bytes = vec![0u8; 61452];
-        let answer = unsafe { fanzsoreb_open_default(bytes.as_mut_ptr(), bytes.len()) };
-        (Book(bytes), answer)
+        let mut words = vec![0u32; 15363];
+        let answer = unsafe { fanzsoreb_open_default_words(words.as_mut_ptr(), words.len()) };
+        (Book(words), answer)
     }
 
     fn post(&mut self, party: u32, day: u32, entry_type: u32, counterparty: u32, amount: u64) -> Posted {
-        unsafe { fanzsoreb_post(self.0.as_mut_ptr(), self.0.len(), party, day, entry_type, counterparty, amount) }
+        unsafe { fanzsoreb_post_words(self.0.as_mut_ptr(), self.0.len(), party, day, entry_type, counterparty, amount) }
     }
 
     fn count(&self) -> u32 {
-        unsafe { fanzsoreb_count(self.0.as_ptr(), self.0.len()).count }
+        unsafe { fanzsoreb_count_words(self.0.as_ptr(), self.0.len()).count }
     }
 
     fn balances(&self, party: u32, day: u32) -> (i64, i64) {
-        let (at, length) = (self.0.as_ptr(), self.0.len());
-        unsafe { (fanzsoreb_day_ahead(at, length, party, day).balance, fanzsoreb_delivery(at, length, party, day).balance) }
+        let (at, words) = (self.0.as_ptr(), self.0.len());
+        let ahead = unsafe { fanzsoreb_day_ahead_words(at, words, party, day) };
+        let delivery = unsafe { fanzsoreb_delivery_words(at, words, party, day) };
+        (ahead.balance, delivery.balance)
     }
 
     // A plain supplier's collateral with a YEK amount and a credit score.
     fn collateral(&self, party: u32, day: u32, yt: u64, score: u32, best: u32) -> Collateral {
         unsafe {
-            fanzsoreb_collateral(
+            fanzsoreb_collateral_words(
                 self.0.as_ptr(), self.0.len(), party, day, 0, 0, 0, 0, 0, 1, 0, 0, 0, 0, 0, 0, 0, 0, 0, yt, score, best,
             )
         }
