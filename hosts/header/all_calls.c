@@ -2,7 +2,8 @@
  * worked out by hand from document 01: done and refused, on words, on bytes at any address and by the header's choice,
  * with null pointers, and by two threads.
  * Prints 'N passed, M failed'; the exit status is 1 if M is above 0. The argument `stacks` prints the stack that each
- * call used; any other one leaves it out, since valgrind does not let a program look at it. */
+ * call used; any other one leaves out the stack, which valgrind does not let a program look at, and the pages that may
+ * not be written. */
 #define _DEFAULT_SOURCE
 #include "fanzsoreb.h"
 #include "fanzsoreb.h" /* twice does no harm */
@@ -17,6 +18,7 @@
 #include "lengths.h"
 #include "threads.h"
 #include "stacks.h"
+#include "stores.h"
 
 static void cause_names(void)
 {
@@ -95,8 +97,10 @@ static void in_each_way(void)
 int main(int count, char **arguments)
 {
     int print = count == 2 && strcmp(arguments[1], "stacks") == 0;
-    if (count < 2 || print)
+    if (count < 2 || print) {
         stacks(print);
+        stores();
+    }
     CHECK(fanzsoreb_version() == FANZSOREB_VERSION);
     detection();
     ceilings();
