@@ -1,6 +1,6 @@
 /* A call on words stores just the stated words, not others with the values they have: pages of the book without any
- * stated word may not be written. The book of 3,071 entries has 15 pages of 1,024 words, and its last three words lie on
- * a sixteenth; entry 3,071 is on the last two. */
+ * stated word may not be written. The book of 3,071 entries has 15 pages of 1,024 words, and its last three words lie
+ * on a sixteenth; the place of entry 3,071 is on the last two. */
 typedef struct { const char *name; void *(*call)(void *); uint32_t cause; size_t first, after; } kept;
 #define KEPT(call, cause, first, after) { #call, call, FANZSOREB_##cause, first, after }
 enum { PAGE = 4096, PAGES = 15 };
