@@ -1,11 +1,12 @@
 /*
  * Fanzsoreb: the market balance engine. C99, usable from C++; the library is for x86-64 Linux.
  *
- * Answers. A call may be made with any figures and on any lent bytes. Either it is done: it answers 0, gives the
- * stated figures and changes just the stated bytes. Or it is refused: it answers the lowest number of the list below
- * that holds (a day file has an order of its own), its other figures are 0, and no lent byte has changed.
- * fanzsoreb_version, fanzsoreb_is_book and fanzsoreb_detected give a number and are never refused. The figures of an
- * answer have stated values, the padding between them has none: compare figures, not memory.
+ * Answers. A call may be made with any figures and on any lent words or bytes. Either it is done: it answers 0, gives
+ * the stated figures and changes just the stated words. Or it is refused: it answers the lowest number of the list
+ * below that holds (a day file has an order of its own), its other figures are 0, and no lent byte has changed.
+ * fanzsoreb_version, fanzsoreb_is_book in each of its ways and fanzsoreb_detected give a number and are never
+ * refused. The figures of an answer have stated values, the padding between them has none: compare figures, not
+ * memory.
  *
  * Units. Volumes are in kWh, money in kurus, prices in kurus per MWh, balances in hundredths of a kWh, signed. A day
  * is a number: 0 is 2000-01-01, 36,524 is 2099-12-31. Parties are 1 to 999.
@@ -23,28 +24,28 @@
  * Words or bytes. Each call on a book, and the month step, is there three times:
  *   fanzsoreb_X_words  on words, in place: nothing is copied, and just the stated words are stored. This is the one to
  *                      use: a book in memory that is aligned to 4 bytes, its length in words.
- *   fanzsoreb_X        on bytes at any address: nothing is aligned, the length is in bytes. The words of the entries are
- *                      copied, and where the call is done copied back. A length that is no multiple of 4 is no book:
- *                      fanzsoreb_is_book gives 0, every other call on a book answers 1. (Of a day file it answers 2, of
- *                      a month's tables 11.)
+ *   fanzsoreb_X        on bytes at any address: nothing is aligned, the length is in bytes. The words of the entries
+ *                      are copied, and where the call is done copied back. A length that is no multiple of 4 is no
+ *                      book: fanzsoreb_is_book gives 0, every other call on a book answers 1. (Of a day file it answers
+ *                      2, of a month's tables 11.)
  *   fanzsoreb_X_any    on bytes, by the first where the address and the length allow it, else by the second.
  * On the same book all three give the same answer and leave the same bytes.
  *
  * Memory. A pointer leads to as many words or bytes as its length says, which the call may read and, where it is not
- * const, write. One to words is aligned to 4 bytes; one to bytes need not be. A null pointer is for length 0 only. The
- * memory has been given values before, whichever they are: fill fresh memory once (calloc, memset) before you open a
- * book in it. A book lent to be written overlaps nothing else that the same call is lent, such as the day file read into
- * it; slices that are only read may overlap or be the same. No other memory of the host is read or written; nothing is
- * kept between calls and nothing is allocated.
+ * const, write. One to words is aligned to 4 bytes; one to bytes need not be. A null pointer is for length 0 only.
+ * The memory has been given values before, whichever they are: fill fresh memory once (calloc, memset) before you
+ * open a book in it. A book lent to be written overlaps nothing else that the same call is lent, such as the day file
+ * read into it; slices that are only read may overlap or be the same. No other memory of the host is read or written;
+ * nothing is kept between calls and nothing is allocated.
  *
  * Threads. Calls that take a const book may run on one book at the same time. A call that takes a book that is not
  * const needs it alone until it returns, whatever its answer: on bytes, where it is done, it may store any byte up to
- * the last entry's, though all but the stated ones get the values they had. Calls on different books may run at the same
- * time.
+ * the last entry's, though all but the stated ones get the values they had. Calls on different books may run at the
+ * same time.
  *
- * A host that is killed. Books may stand in mapped files. A call stores first what lies beyond the last entry, then what
- * lies before it, and last, by a store of its own, the word with the number of entries. So a process that is ended in the
- * middle of a call, at any moment, leaves of
+ * A host that is killed. Books may stand in mapped files. The word with the number of entries is stored last, by a
+ * store of its own, after the words of new entries and after statuses. So a process that is ended in the middle of a
+ * call, at any moment, leaves of
  *   a post, a day file   the book as it was, or with the entry or with all lines of the file
  *   a withdrawal         the entry standing or withdrawn
  *   an opening           what was there, in which R and TM may already be the new ones, or the opened book. Over an
@@ -55,8 +56,10 @@
  * This is about a process that is ended, not about a machine that loses power.
  *
  * Stack. FANZSOREB_STACK_... below are sizes of a thread's whole stack that are enough for a call, measured on the
- * largest books and tables. A call on a book's bytes takes stack by the number of entries, or by the length where that
- * is less: up to 25 entries some 4 KiB, up to 127 some 7, up to 768 some 20, above that some 66.
+ * largest books and tables; a thread's own data, which some C libraries keep on its stack, come on top. A call on a
+ * book's bytes takes stack by the number of entries, or by the length where that is less: up to 25 entries at most 6
+ * KiB, up to 127 at most 9, up to 768 at most 21, above that at most 66; an opening takes none. The lines of a day file
+ * count as entries; a day file into a book that has a day's mark takes 36 KiB more, a control that is done 145.
  */
 #ifndef FANZSOREB_H
 #define FANZSOREB_H
@@ -197,9 +200,9 @@ uint32_t fanzsoreb_open_default(uint8_t *book, size_t length);
 
 /* Appends one standing entry; its number, counted from 0. Party 1 to 999; day 0 to 36,524; type 1 to 20, or 22;
  * counterparty 0 outside type 6, in type 6 0 to 999 and not the party; amount 0 to 10^9 kWh for types 1 to 16 and 22,
- * 0 to 10^13 kurus for 17 to 20. Changes the five words after the last entry, and the number of entries. Causes: 1, 3, 4,
- * 5, 6, 7, 8 (type 6, counterparty above 0, on a closed day), 9. Each call checks the whole book: for many lines read a
- * day file. */
+ * 0 to 10^13 kurus for 17 to 20. Changes the five words after the last entry, and the number of entries. Causes: 1, 3,
+ * 4, 5, 6, 7, 8 (type 6, counterparty above 0, on a closed day), 9. Each call checks the whole book: for many lines
+ * read a day file. */
 fanzsoreb_posted fanzsoreb_post_words(uint32_t *book, size_t words, uint32_t party, uint32_t day, uint32_t entry_type,
                                       uint32_t counterparty, uint64_t amount);
 fanzsoreb_posted fanzsoreb_post(uint8_t *book, size_t length, uint32_t party, uint32_t day, uint32_t entry_type,
@@ -252,11 +255,11 @@ fanzsoreb_first_day_answer fanzsoreb_first_day(uint32_t month);
  *   prices     one an hour, 0 to 1,000,000 kurus per MWh, for 0 to 745 hours
  *   imbalance  rows x hours, row after row, a row a group, each -10,000,000 to 10,000,000 kWh, negative is short
  *   dm         secondary control, one an hour, in the same range
- * rows is 1 to 64; group, the one asked, is below rows. Lengths are in figures; on bytes, little-endian, in bytes. AOSMF
- * in kurus per MWh, 0 to 1,000,000: the average price of all rows weighted by imbalance without its sign, halves up, 0
- * where there is no imbalance. AEDM in kWh, signed, within 14,900,000,000 either way: imbalance less DM of the group
- * asked. Causes: 11 (more than 745 hours, an imbalance table of not rows x hours figures or a DM table of not one an
- * hour; on bytes also a length that is no multiple of 4), 12 (rows, group or a figure outside its range). Changes
+ * rows is 1 to 64; group, the one asked, is below rows. Lengths are in figures; on bytes, little-endian, in bytes.
+ * AOSMF in kurus per MWh, 0 to 1,000,000: the average price of all rows weighted by imbalance without its sign, halves
+ * up, 0 where there is no imbalance. AEDM in kWh, signed, within 14,900,000,000 either way: imbalance less DM of the
+ * group asked. Causes: 11 (more than 745 hours, an imbalance table of not rows x hours figures or a DM table of not one
+ * an hour; on bytes also a length that is no multiple of 4), 12 (rows, group or a figure outside its range). Changes
  * nothing. */
 fanzsoreb_month_answer fanzsoreb_month_words(const uint32_t *prices, size_t prices_length, const int32_t *imbalance,
                                              size_t imbalance_length, uint32_t rows, const int32_t *dm,

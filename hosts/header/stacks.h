@@ -22,13 +22,14 @@ static void book_of(uint32_t entries, size_t length)
         0x60000000, 0x70000069, 0x8007A120,
         0x10000001, 0x20002328, 0x32000206, 0x400AAE60, 0x50000000,
         0x10000001, 0x20002329, 0x30000206, 0x400AAE60, 0x50000000,
-        0x10000002, 0x20002329, 0x30000306, 0x400AAE60, 0x50000000
+        0x10000002, 0x20002329, 0x30000306, 0x400AAE60, 0x50000000,
+        0x10000000, 0x20002327, 0x30000015, 0x40000000, 0x50000000
     };
     size_t i;
     last = entries - 1;
     memcpy(book_words, first, sizeof first);
     book_words[0] += entries;
-    for (i = 3; i < FANZSOREB_MOST_ENTRIES; i++) {
+    for (i = 4; i < FANZSOREB_MOST_ENTRIES; i++) {
         book_words[3 + 5 * i] = 0x10000004 + (uint32_t)i % 900;
         book_words[4 + 5 * i] = 0x20002329;
         book_words[5 + 5 * i] = 0x30000000 + FANZSOREB_GENERATION_PROGRAM;
@@ -166,7 +167,7 @@ static const need calls[] = {
     NEED(delivery_words, WORDS, DONE),
     NEED(collateral_words, WORDS, DONE),
     NEED(month_words, WORDS, DONE),
-    NEED(no_words_for_a_file, FILE_WORDS, NOT_A_BOOK), /* WORDS where a slice is refused before the file is read */
+    NEED(no_words_for_a_file, WORDS, NOT_A_BOOK),
     NEED(no_words_to_control, WORDS, NOT_A_BOOK),
     NEED(no_day_to_control_words, WORDS, BAD_DAY),
     NEED(one_line_words, FILE_WORDS, DONE),
