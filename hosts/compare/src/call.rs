@@ -136,6 +136,30 @@ impl Call {
         }
     }
 
+    /// What the call is lent beside a book: a day file, or a month's tables.
+    pub fn beside(&self) -> Vec<(&'static str, &[u8])> {
+        match self {
+            Call::ReadFile { file } => vec![("file", file)],
+            Call::Month { prices, imbalance, dm, .. } => {
+                vec![("prices", prices), ("imbalance", imbalance), ("dm", dm)]
+            }
+            _ => Vec::new(),
+        }
+    }
+
+    /// Whether the call is on a book, not of figures or tables alone.
+    pub fn is_on_a_book(&self) -> bool {
+        !matches!(self.name(), "detected" | "ceiling" | "first_day" | "month")
+    }
+
+    /// Whether there is a call on words too: on a book or on tables, of which
+    /// each length is a multiple of 4. A day file is bytes for both.
+    pub fn has_words(&self, book: &[u8]) -> bool {
+        let whole = |bytes: &[u8]| bytes.len() % 4 == 0;
+        let tables = || self.beside().iter().all(|(_, table)| whole(table));
+        whole(book) && (self.is_on_a_book() || (self.name() == "month" && tables()))
+    }
+
     /// The call with all its figures.
     pub fn shown(&self) -> String {
         match self {

@@ -1,9 +1,10 @@
 //! The engine's calls on numbers and byte slices.
 //!
 //! A book is its words' bytes, little-endian; a table too. `Linked` is the
-//! engine under test, a static library in C's calling convention. `Second` is
-//! the second calculation behind the same calls: what the engine is held to,
-//! and with the feature `selftest` also what stands in for the engine.
+//! engine under test, a static library in C's calling convention, by its calls
+//! on bytes or by those on words. `Second` is the second calculation behind the
+//! same calls: what the engine is held to, and with the feature `selftest` also
+//! what stands in for the engine.
 
 use second::{
     BalanceAnswer, Case, CeilingAnswer, Collateral, Controlled, Counted, EntryRead, FileRead,
@@ -30,7 +31,11 @@ pub struct Post {
     pub amount: u64,
 }
 
-pub trait Engine {
+pub trait Engine: Sized {
+    /// The same engine by its calls on words in place. These are lent bytes
+    /// whose length and address are multiples of 4.
+    fn on_words(&self) -> Self;
+
     fn is_book(&self, book: &[u8]) -> u32;
     fn open(&self, book: &mut [u8], coefficient: u32, tolerance: u32) -> u32;
     fn open_default(&self, book: &mut [u8]) -> u32;
@@ -100,6 +105,10 @@ fn writing<T>(book: &mut [u8], refused: T, call: impl FnOnce(&mut [u32]) -> T) -
 }
 
 impl Engine for Second {
+    fn on_words(&self) -> Second {
+        Second
+    }
+
     fn is_book(&self, book: &[u8]) -> u32 {
         reading(book, 0, |words| u32::from(second::is_book(words)))
     }
@@ -194,6 +203,7 @@ pub static NULL_WHEN_EMPTY: std::sync::atomic::AtomicBool =
 #[allow(dead_code)]
 pub mod linked {
     use super::*;
+    use std::ffi::c_void;
     use std::sync::atomic::Ordering::Relaxed;
 
     #[repr(C)]
@@ -287,36 +297,67 @@ pub mod linked {
         posted: u32,
     }
 
-    #[link(name = "fanzsoreb", kind = "static")]
-    extern "C" {
-        fn fanzsoreb_is_book(book: *const u8, length: usize) -> u32;
-        fn fanzsoreb_open(book: *mut u8, length: usize, coefficient: u32, tolerance: u32) -> u32;
-        fn fanzsoreb_open_default(book: *mut u8, length: usize) -> u32;
-        fn fanzsoreb_post(
-            book: *mut u8,
-            length: usize,
-            party: u32,
-            day: u32,
-            entry_type: u32,
-            counterparty: u32,
-            amount: u64,
+    /// A lent slice as the library takes it: its length is in bytes or in words.
+    struct Slice {
+        at: *mut u8,
+        length: usize,
+        words: bool,
+    }
+
+    /// Each call on a slice is declared on bytes and on words; the slice chooses.
+    macro_rules! calls {
+        ($($name:ident: $bytes:ident, $words:ident($($figure:ident: $kind:ty),*) -> $answer:ty;)*) => {
+            #[link(name = "fanzsoreb", kind = "static")]
+            extern "C" {
+                $(fn $bytes(at: *mut u8, length: usize, $($figure: $kind),*) -> $answer;)*
+                $(fn $words(at: *mut u32, length: usize, $($figure: $kind),*) -> $answer;)*
+            }
+            $(#[allow(clippy::too_many_arguments)]
+            fn $name(slice: Slice, $($figure: $kind),*) -> $answer {
+                unsafe {
+                    if slice.words {
+                        $words(slice.at.cast(), slice.length, $($figure),*)
+                    } else {
+                        $bytes(slice.at, slice.length, $($figure),*)
+                    }
+                }
+            })*
+        };
+    }
+
+    calls! {
+        is_book: fanzsoreb_is_book, fanzsoreb_is_book_words() -> u32;
+        open: fanzsoreb_open, fanzsoreb_open_words(coefficient: u32, tolerance: u32) -> u32;
+        open_default: fanzsoreb_open_default, fanzsoreb_open_default_words() -> u32;
+        post: fanzsoreb_post, fanzsoreb_post_words(
+            party: u32, day: u32, entry_type: u32, counterparty: u32, amount: u64
         ) -> CPosted;
-        fn fanzsoreb_withdraw(book: *mut u8, length: usize, number: u32) -> u32;
-        fn fanzsoreb_count(book: *const u8, length: usize) -> CCounted;
-        fn fanzsoreb_entry(book: *const u8, length: usize, number: u32) -> CEntryRead;
-        fn fanzsoreb_tally(book: *const u8, length: usize, party: u32, day: u32) -> CTallyAnswer;
-        fn fanzsoreb_day_ahead(
-            book: *const u8,
-            length: usize,
-            party: u32,
-            day: u32,
+        withdraw: fanzsoreb_withdraw, fanzsoreb_withdraw_words(number: u32) -> u32;
+        count: fanzsoreb_count, fanzsoreb_count_words() -> CCounted;
+        entry: fanzsoreb_entry, fanzsoreb_entry_words(number: u32) -> CEntryRead;
+        tally: fanzsoreb_tally, fanzsoreb_tally_words(party: u32, day: u32) -> CTallyAnswer;
+        day_ahead: fanzsoreb_day_ahead, fanzsoreb_day_ahead_words(
+            party: u32, day: u32
         ) -> CBalanceAnswer;
-        fn fanzsoreb_delivery(
-            book: *const u8,
-            length: usize,
-            party: u32,
-            day: u32,
+        delivery: fanzsoreb_delivery, fanzsoreb_delivery_words(
+            party: u32, day: u32
         ) -> CBalanceAnswer;
+        month: fanzsoreb_month, fanzsoreb_month_words(
+            imbalance: *const c_void, imbalance_length: usize, rows: u32, dm: *const c_void,
+            dm_length: usize, group: u32
+        ) -> CMonthAnswer;
+        collateral: fanzsoreb_collateral, fanzsoreb_collateral_words(
+            party: u32, day: u32, licence: u32, capacity: u64, nonbusiness: u32, holiday: u32,
+            defaults: u32, responsible: u32, aosmf1: u64, aedm1: i64, aosmf2: u64, aedm2: i64,
+            aosmf3: u64, aedm3: i64, used: u32, rk: u32, rt: u64, yt: u64, score: u32, best: u32
+        ) -> CCollateral;
+        control: fanzsoreb_control, fanzsoreb_control_words(day: u32) -> CControlled;
+        read_file: fanzsoreb_read_file, fanzsoreb_read_file_words(
+            file: *const u8, file_length: usize
+        ) -> CFileRead;
+    }
+
+    extern "C" {
         fn fanzsoreb_detected(balance: i64) -> u32;
         fn fanzsoreb_ceiling(
             offer: u32,
@@ -325,47 +366,6 @@ pub mod linked {
             capacity: u32,
         ) -> CCeilingAnswer;
         fn fanzsoreb_first_day(month: u32) -> CFirstDayAnswer;
-        fn fanzsoreb_month(
-            prices: *const u8,
-            prices_length: usize,
-            imbalance: *const u8,
-            imbalance_length: usize,
-            rows: u32,
-            dm: *const u8,
-            dm_length: usize,
-            group: u32,
-        ) -> CMonthAnswer;
-        fn fanzsoreb_collateral(
-            book: *const u8,
-            length: usize,
-            party: u32,
-            day: u32,
-            licence: u32,
-            capacity: u64,
-            nonbusiness: u32,
-            holiday: u32,
-            defaults: u32,
-            responsible: u32,
-            aosmf1: u64,
-            aedm1: i64,
-            aosmf2: u64,
-            aedm2: i64,
-            aosmf3: u64,
-            aedm3: i64,
-            used: u32,
-            rk: u32,
-            rt: u64,
-            yt: u64,
-            score: u32,
-            best: u32,
-        ) -> CCollateral;
-        fn fanzsoreb_control(book: *mut u8, length: usize, day: u32) -> CControlled;
-        fn fanzsoreb_read_file(
-            book: *mut u8,
-            length: usize,
-            file: *const u8,
-            file_length: usize,
-        ) -> CFileRead;
     }
 
     fn at(slice: &[u8]) -> *const u8 {
@@ -384,48 +384,64 @@ pub mod linked {
         }
     }
 
-    pub struct Linked;
+    pub struct Linked {
+        words: bool,
+    }
+
+    impl Linked {
+        pub fn on_bytes() -> Linked {
+            Linked { words: false }
+        }
+
+        fn slice(&self, at: *mut u8, length: usize) -> Slice {
+            // What a host must see to before it calls on words.
+            assert!(!self.words || (at as usize | length) % 4 == 0);
+            Slice { at, length: if self.words { length / 4 } else { length }, words: self.words }
+        }
+
+        fn lent(&self, book: &[u8]) -> Slice {
+            self.slice(at(book).cast_mut(), book.len())
+        }
+
+        fn lent_mut(&self, book: &mut [u8]) -> Slice {
+            self.slice(at_mut(book), book.len())
+        }
+    }
 
     impl Engine for Linked {
+        fn on_words(&self) -> Linked {
+            Linked { words: true }
+        }
+
         fn is_book(&self, book: &[u8]) -> u32 {
-            unsafe { fanzsoreb_is_book(at(book), book.len()) }
+            is_book(self.lent(book))
         }
 
         fn open(&self, book: &mut [u8], coefficient: u32, tolerance: u32) -> u32 {
-            unsafe { fanzsoreb_open(at_mut(book), book.len(), coefficient, tolerance) }
+            open(self.lent_mut(book), coefficient, tolerance)
         }
 
         fn open_default(&self, book: &mut [u8]) -> u32 {
-            unsafe { fanzsoreb_open_default(at_mut(book), book.len()) }
+            open_default(self.lent_mut(book))
         }
 
         fn post(&self, book: &mut [u8], p: Post) -> Posted {
-            let length = book.len();
-            let c = unsafe {
-                fanzsoreb_post(
-                    at_mut(book),
-                    length,
-                    p.party,
-                    p.day,
-                    p.entry_type,
-                    p.counterparty,
-                    p.amount,
-                )
-            };
+            let c =
+                post(self.lent_mut(book), p.party, p.day, p.entry_type, p.counterparty, p.amount);
             Posted { answer: c.answer, number: c.number }
         }
 
         fn withdraw(&self, book: &mut [u8], number: u32) -> u32 {
-            unsafe { fanzsoreb_withdraw(at_mut(book), book.len(), number) }
+            withdraw(self.lent_mut(book), number)
         }
 
         fn count(&self, book: &[u8]) -> Counted {
-            let c = unsafe { fanzsoreb_count(at(book), book.len()) };
+            let c = count(self.lent(book));
             Counted { answer: c.answer, count: c.count }
         }
 
         fn entry(&self, book: &[u8], number: u32) -> EntryRead {
-            let c = unsafe { fanzsoreb_entry(at(book), book.len(), number) };
+            let c = entry(self.lent(book), number);
             EntryRead {
                 answer: c.answer,
                 party: c.party,
@@ -438,7 +454,7 @@ pub mod linked {
         }
 
         fn tally(&self, book: &[u8], party: u32, day: u32) -> TallyAnswer {
-            let c = unsafe { fanzsoreb_tally(at(book), book.len(), party, day) };
+            let c = tally(self.lent(book), party, day);
             TallyAnswer {
                 answer: c.answer,
                 party: c.tally.party,
@@ -448,12 +464,12 @@ pub mod linked {
         }
 
         fn day_ahead(&self, book: &[u8], party: u32, day: u32) -> BalanceAnswer {
-            let c = unsafe { fanzsoreb_day_ahead(at(book), book.len(), party, day) };
+            let c = day_ahead(self.lent(book), party, day);
             BalanceAnswer { answer: c.answer, balance: c.balance }
         }
 
         fn delivery(&self, book: &[u8], party: u32, day: u32) -> BalanceAnswer {
-            let c = unsafe { fanzsoreb_delivery(at(book), book.len(), party, day) };
+            let c = delivery(self.lent(book), party, day);
             BalanceAnswer { answer: c.answer, balance: c.balance }
         }
 
@@ -478,49 +494,44 @@ pub mod linked {
         }
 
         fn month(&self, t: Tables) -> MonthAnswer {
-            let c = unsafe {
-                fanzsoreb_month(
-                    at(t.prices),
-                    t.prices.len(),
-                    at(t.imbalance),
-                    t.imbalance.len(),
-                    t.rows,
-                    at(t.dm),
-                    t.dm.len(),
-                    t.group,
-                )
-            };
+            let (imbalance, dm) = (self.lent(t.imbalance), self.lent(t.dm));
+            let c = month(
+                self.lent(t.prices),
+                imbalance.at.cast(),
+                imbalance.length,
+                t.rows,
+                dm.at.cast(),
+                dm.length,
+                t.group,
+            );
             MonthAnswer { answer: c.answer, aosmf: c.month.aosmf, aedm: c.month.aedm }
         }
 
         fn collateral(&self, book: &[u8], case: &Case) -> Collateral {
             let [one, two, three] = case.months;
-            let c = unsafe {
-                fanzsoreb_collateral(
-                    at(book),
-                    book.len(),
-                    case.party,
-                    case.day,
-                    case.licence,
-                    case.capacity,
-                    case.nonbusiness,
-                    case.holiday,
-                    case.defaults,
-                    case.responsible,
-                    one.aosmf,
-                    one.aedm,
-                    two.aosmf,
-                    two.aedm,
-                    three.aosmf,
-                    three.aedm,
-                    case.used,
-                    case.rk,
-                    case.rt,
-                    case.yt,
-                    case.score,
-                    case.best,
-                )
-            };
+            let c = collateral(
+                self.lent(book),
+                case.party,
+                case.day,
+                case.licence,
+                case.capacity,
+                case.nonbusiness,
+                case.holiday,
+                case.defaults,
+                case.responsible,
+                one.aosmf,
+                one.aedm,
+                two.aosmf,
+                two.aedm,
+                three.aosmf,
+                three.aedm,
+                case.used,
+                case.rk,
+                case.rt,
+                case.yt,
+                case.score,
+                case.best,
+            );
             Collateral {
                 answer: c.answer,
                 margin: c.margin,
@@ -533,7 +544,7 @@ pub mod linked {
         }
 
         fn control(&self, book: &mut [u8], day: u32) -> Controlled {
-            let c = unsafe { fanzsoreb_control(at_mut(book), book.len(), day) };
+            let c = control(self.lent_mut(book), day);
             Controlled {
                 answer: c.answer,
                 first: c.first,
@@ -543,7 +554,7 @@ pub mod linked {
         }
 
         fn read_file(&self, book: &mut [u8], file: &[u8]) -> FileRead {
-            let c = unsafe { fanzsoreb_read_file(at_mut(book), book.len(), at(file), file.len()) };
+            let c = read_file(self.lent_mut(book), at(file), file.len());
             FileRead { answer: c.answer, posted: c.posted }
         }
     }

@@ -1,13 +1,14 @@
 //! What is printed when the engine does not come back: a touched guard page, an
 //! abort, a call without end. The last line is still a count.
 
-use std::sync::atomic::{AtomicU64, AtomicUsize, Ordering::Relaxed};
+use std::sync::atomic::{AtomicBool, AtomicU64, AtomicUsize, Ordering::Relaxed};
 
 static SEED: AtomicU64 = AtomicU64::new(0);
 static ROUND: AtomicU64 = AtomicU64::new(0);
 static STEP: AtomicU64 = AtomicU64::new(0);
 static CALL: AtomicUsize = AtomicUsize::new(0);
 static CALL_LENGTH: AtomicUsize = AtomicUsize::new(0);
+static WORDS: AtomicBool = AtomicBool::new(false);
 static PASSED: AtomicU64 = AtomicU64::new(0);
 static FAILED: AtomicU64 = AtomicU64::new(0);
 
@@ -18,6 +19,11 @@ pub fn at_round(seed: u64, call: &'static str, round: u64) {
     CALL_LENGTH.store(call.len(), Relaxed);
     ROUND.store(round, Relaxed);
     STEP.store(0, Relaxed);
+}
+
+/// Whether the call that is about to be made is the one on words.
+pub fn lends(words: bool) {
+    WORDS.store(words, Relaxed);
 }
 
 /// One more call of the round has been compared.
@@ -96,6 +102,9 @@ mod signals {
         text.number(signal as u64);
         text.text(b"): call ");
         text.text(call);
+        if WORDS.load(Relaxed) {
+            text.text(b" on words");
+        }
         text.text(b", seed ");
         text.number(SEED.load(Relaxed));
         text.text(b", round ");

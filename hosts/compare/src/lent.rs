@@ -2,14 +2,14 @@
 
 use crate::call::{Answer, Call};
 use crate::engine::{Engine, Second, Tables, NULL_WHEN_EMPTY};
+use crate::fault;
 use crate::guard::{Arena, Place};
 use crate::rng::Rng;
 use crate::sizes::{MOST_BOOK, MOST_FILE, MOST_TABLE};
 use std::sync::atomic::Ordering::Relaxed;
 
-/// Runs a call on lent slices.
-fn run(engine: &impl Engine, call: &Call, lent: &mut Lent) -> Answer {
-    let book = lent.book.bytes_mut();
+/// Makes a call on a book and on what else it is lent.
+fn made(engine: &impl Engine, call: &Call, book: &mut [u8], beside: &[&[u8]]) -> Answer {
     match call {
         Call::IsBook => Answer::Flag(engine.is_book(book)),
         Call::Open { coefficient, tolerance } => {
@@ -29,84 +29,117 @@ fn run(engine: &impl Engine, call: &Call, lent: &mut Lent) -> Answer {
         }
         Call::FirstDay { month } => Answer::FirstDay(engine.first_day(*month)),
         Call::Month { rows, group, .. } => Answer::Month(engine.month(Tables {
-            prices: lent.file.bytes(),
-            imbalance: lent.imbalance.bytes(),
+            prices: beside[0],
+            imbalance: beside[1],
             rows: *rows,
-            dm: lent.dm.bytes(),
+            dm: beside[2],
             group: *group,
         })),
         Call::Collateral(case) => Answer::Collateral(engine.collateral(book, case)),
         Call::Control { day } => Answer::Controlled(engine.control(book, *day)),
-        Call::ReadFile { .. } => Answer::FileRead(engine.read_file(book, lent.file.bytes())),
+        Call::ReadFile { .. } => Answer::FileRead(engine.read_file(book, beside[0])),
     }
 }
 
-/// What the second calculation answers, on the model's own copy of the book.
-fn expected(call: &Call, model: &mut [u8]) -> Answer {
-    match call {
-        Call::IsBook => Answer::Flag(Second.is_book(model)),
-        Call::Open { coefficient, tolerance } => {
-            Answer::Plain(Second.open(model, *coefficient, *tolerance))
-        }
-        Call::OpenDefault => Answer::Plain(Second.open_default(model)),
-        Call::Post(post) => Answer::Posted(Second.post(model, *post)),
-        Call::Withdraw { number } => Answer::Plain(Second.withdraw(model, *number)),
-        Call::Count => Answer::Counted(Second.count(model)),
-        Call::Entry { number } => Answer::EntryRead(Second.entry(model, *number)),
-        Call::Tally { party, day } => Answer::Tally(Second.tally(model, *party, *day)),
-        Call::DayAhead { party, day } => Answer::Balance(Second.day_ahead(model, *party, *day)),
-        Call::Delivery { party, day } => Answer::Balance(Second.delivery(model, *party, *day)),
-        Call::Detected { balance } => Answer::Flag(Second.detected(*balance)),
-        Call::Ceiling { offer, bilateral, futures, capacity } => {
-            Answer::Ceiling(Second.ceiling(*offer, *bilateral, *futures, *capacity))
-        }
-        Call::FirstDay { month } => Answer::FirstDay(Second.first_day(*month)),
-        Call::Month { prices, imbalance, rows, dm, group } => Answer::Month(Second.month(Tables {
-            prices,
-            imbalance,
-            rows: *rows,
-            dm,
-            group: *group,
-        })),
-        Call::Collateral(case) => Answer::Collateral(Second.collateral(model, case)),
-        Call::Control { day } => Answer::Controlled(Second.control(model, *day)),
-        Call::ReadFile { file } => Answer::FileRead(Second.read_file(model, file)),
-    }
+/// A call, the book before it, and what the second calculation makes of both.
+struct Wanted<'a> {
+    call: &'a Call,
+    before: &'a [u8],
+    answer: Answer,
+    after: &'a [u8],
 }
 
-/// The memory that the engine is lent: a book, and a file or a month's tables.
-pub struct Lent {
+/// Memory that the engine is lent: a book, and a file or a month's tables.
+struct Memory {
+    /// Whether it is lent as words, at aligned addresses.
+    words: bool,
     book: Arena,
-    file: Arena,
-    imbalance: Arena,
-    dm: Arena,
+    beside: [Arena; 3],
 }
 
-fn place(rng: &mut Rng) -> Place {
+fn place(rng: &mut Rng, aligned: bool) -> Place {
     match rng.below(8) {
         0..=3 => Place::Back,
         4 => Place::Front,
+        _ if aligned => Place::Between(4 * rng.index(3)),
         _ => Place::Between(rng.index(9)),
     }
 }
 
+impl Memory {
+    fn new(words: bool) -> Memory {
+        let beside = [MOST_FILE, MOST_TABLE, MOST_FILE].map(Arena::new);
+        Memory { words, book: Arena::new(MOST_BOOK), beside }
+    }
+
+    /// Makes a call on this memory and compares answer, figures and every lent
+    /// byte. Returns what is different.
+    fn differences(&mut self, engine: &impl Engine, rng: &mut Rng, wanted: &Wanted) -> Vec<String> {
+        let lent = wanted.call.beside();
+        // A day file is bytes for either call.
+        let aligned = self.words && lent.len() > 1;
+        for (arena, (_, bytes)) in self.beside.iter_mut().zip(&lent) {
+            arena.lend(bytes, place(rng, aligned));
+        }
+        fault::lends(self.words);
+        let beside = self.beside.each_ref().map(Arena::bytes);
+        let got = made(engine, wanted.call, self.book.bytes_mut(), &beside);
+
+        let mut wrong = Vec::new();
+        if got != wanted.answer {
+            wrong.push(format!("answer {got:?}, second calculation {:?}", wanted.answer));
+        }
+        if got.cause() != 0 && self.book.bytes() != wanted.before {
+            wrong.push("the engine wrote on a refusal".to_string());
+        }
+        wrong.extend(written(&mut self.book, "book", wanted.after));
+        for (arena, (what, bytes)) in self.beside.iter_mut().zip(lent) {
+            wrong.extend(written(arena, what, bytes));
+        }
+        if self.words {
+            wrong.iter_mut().for_each(|line| line.insert_str(0, "on words: "));
+        }
+        wrong
+    }
+}
+
+/// What an arena has otherwise than it should, in the lent slice and around it.
+fn written(arena: &mut Arena, what: &str, wanted: &[u8]) -> Vec<String> {
+    let mut wrong = Vec::new();
+    if let Some(at) = first_difference(arena.bytes(), wanted) {
+        let (word, got, wanted) = (at / 4, arena.bytes()[at], wanted[at]);
+        wrong.push(format!(
+            "byte {at} of the {what} (word {word}) is {got:02x}, second calculation {wanted:02x}"
+        ));
+    }
+    if let Some(at) = arena.broken_canary() {
+        wrong.push(format!("byte {at} outside the {what} was written"));
+    }
+    wrong
+}
+
+/// The memory of the calls on bytes and that of the calls on words.
+pub struct Lent {
+    bytes: Memory,
+    words: Memory,
+}
+
 impl Lent {
     pub fn new() -> Lent {
-        Lent {
-            book: Arena::new(MOST_BOOK),
-            file: Arena::new(MOST_FILE),
-            imbalance: Arena::new(MOST_TABLE),
-            dm: Arena::new(MOST_FILE),
+        Lent { bytes: Memory::new(false), words: Memory::new(true) }
+    }
+
+    /// Lends a book, as words too where it is whole words; both stay lent, and
+    /// alike, from call to call.
+    pub fn lend_book(&mut self, rng: &mut Rng, book: &[u8]) {
+        self.bytes.book.lend(book, place(rng, false));
+        if book.len() % 4 == 0 {
+            self.words.book.lend(book, place(rng, true));
         }
     }
 
-    /// Lends a book; it stays lent from call to call.
-    pub fn lend_book(&mut self, rng: &mut Rng, book: &[u8]) {
-        self.book.lend(book, place(rng));
-    }
-
-    /// Makes a call on both sides and compares answer, figures and every lent
-    /// byte. The model is the second calculation's copy of the lent book.
+    /// Makes a call on both sides, the engine's on bytes and, where there is
+    /// one, on words. The model is the second calculation's copy of the book.
     /// Returns the expected answer, or what is different.
     pub fn compare(
         &mut self,
@@ -115,67 +148,21 @@ impl Lent {
         model: &mut [u8],
         call: &Call,
     ) -> Result<Answer, Vec<String>> {
-        // Prices stand where a file does: no call has both.
-        let mut others: Vec<(&'static str, &[u8])> = Vec::new();
-        match call {
-            Call::ReadFile { file } => {
-                self.file.lend(file, place(rng));
-                others.push(("file", file));
-            }
-            Call::Month { prices, imbalance, dm, .. } => {
-                self.file.lend(prices, place(rng));
-                self.imbalance.lend(imbalance, place(rng));
-                self.dm.lend(dm, place(rng));
-                others.extend([
-                    ("prices", &prices[..]),
-                    ("imbalance", &imbalance[..]),
-                    ("dm", &dm[..]),
-                ]);
-            }
-            _ => (),
-        }
         NULL_WHEN_EMPTY.store(rng.percent(50), Relaxed);
-
         let before = model.to_vec();
-        let got = run(engine, call, self);
-        let wanted = expected(call, model);
+        let beside: Vec<&[u8]> = call.beside().into_iter().map(|(_, bytes)| bytes).collect();
+        let answer = made(&Second, call, model, &beside);
+        let wanted = Wanted { call, before: &before, answer, after: model };
 
-        let mut wrong = Vec::new();
-        if got != wanted {
-            wrong.push(format!("answer {got:?}, second calculation {wanted:?}"));
+        let mut wrong = self.bytes.differences(engine, rng, &wanted);
+        if call.has_words(&before) {
+            wrong.extend(self.words.differences(&engine.on_words(), rng, &wanted));
         }
-        if wanted.cause() != 0 && *model != before[..] {
+        if answer.cause() != 0 && *model != before[..] {
             wrong.push("the second calculation wrote on a refusal".to_string());
         }
-        if got.cause() != 0 && self.book.bytes() != &before[..] {
-            wrong.push("the engine wrote on a refusal".to_string());
-        }
-        if let Some(at) = first_difference(self.book.bytes(), model) {
-            wrong.push(format!(
-                "byte {at} of the book (word {}) is {:02x}, second calculation {:02x}",
-                at / 4,
-                self.book.bytes()[at],
-                model[at]
-            ));
-        }
-        if let Some(at) = self.book.broken_canary() {
-            wrong.push(format!("byte {at} outside the book was written"));
-        }
-        for (what, lent) in others {
-            let arena = match what {
-                "file" | "prices" => &mut self.file,
-                "imbalance" => &mut self.imbalance,
-                _ => &mut self.dm,
-            };
-            if let Some(at) = first_difference(arena.bytes(), lent) {
-                wrong.push(format!("byte {at} of the lent {what} was written"));
-            }
-            if let Some(at) = arena.broken_canary() {
-                wrong.push(format!("byte {at} outside the lent {what} was written"));
-            }
-        }
         if wrong.is_empty() {
-            Ok(wanted)
+            Ok(answer)
         } else {
             Err(wrong)
         }

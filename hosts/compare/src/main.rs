@@ -37,7 +37,7 @@ fn engine() -> Option<impl engine::Engine> {
 
 #[cfg(all(engine_linked, not(feature = "selftest")))]
 fn engine() -> Option<impl engine::Engine> {
-    Some(engine::linked::Linked)
+    Some(engine::linked::Linked::on_bytes())
 }
 
 #[cfg(all(not(engine_linked), not(feature = "selftest")))]

@@ -15,6 +15,15 @@ use second::{
 };
 use std::collections::{BTreeMap, BTreeSet};
 
+/// Calls that are the second calculation's own.
+macro_rules! as_second {
+    ($($name:ident($($figure:ident: $kind:ty),*) -> $answer:ty;)*) => {
+        $(fn $name(&self, $($figure: $kind),*) -> $answer {
+            Second.$name($($figure),*)
+        })*
+    };
+}
+
 fn quiet(rounds: u64) -> Plan {
     Plan { seed: 7, rounds, only: None, loud: false, first_only: false }
 }
@@ -259,6 +268,10 @@ fn read_as(book: &mut [u8], file: &[u8], own: u32, other: u32) -> FileRead {
 }
 
 impl Engine for Wrong {
+    fn on_words(&self) -> Wrong {
+        Wrong(self.0)
+    }
+
     fn is_book(&self, book: &[u8]) -> u32 {
         let right = Second.is_book(book);
         if right == 0 && book.len() % 4 == 0 {
@@ -1234,26 +1247,29 @@ fn slips_are_found_in_lists() {
 
 // The guards
 
-/// Reads the byte just outside the lent book.
-struct Stray(&'static str);
+/// Reads the byte just outside the lent book, by its calls on bytes or on words.
+struct Stray {
+    how: &'static str,
+    words: bool,
+}
 
 impl Stray {
     fn stray(&self, book: &[u8]) {
         let (first, behind) = (book.as_ptr(), book.as_ptr().wrapping_add(book.len()));
-        let at = if self.0 == "reads behind" { behind } else { first.wrapping_sub(1) };
+        let at = match (self.how, self.words) {
+            ("behind", false) | ("behind words", true) => behind,
+            ("before", false) => first.wrapping_sub(1),
+            _ => return,
+        };
         std::hint::black_box(unsafe { at.read_volatile() });
     }
 }
 
-macro_rules! as_second {
-    ($($name:ident($($figure:ident: $kind:ty),*) -> $answer:ty;)*) => {
-        $(fn $name(&self, $($figure: $kind),*) -> $answer {
-            Second.$name($($figure),*)
-        })*
-    };
-}
-
 impl Engine for Stray {
+    fn on_words(&self) -> Stray {
+        Stray { words: true, ..*self }
+    }
+
     fn count(&self, book: &[u8]) -> Counted {
         self.stray(book);
         Second.count(book)
@@ -1287,9 +1303,11 @@ fn strays() {
         return;
     };
     fault::watch();
+    let stray = |how| drop(single(&Stray { how, words: false }, &quiet(100), "count"));
     match how.as_str() {
-        "behind" => drop(single(&Stray("reads behind"), &quiet(100), "count")),
-        "before" => drop(single(&Stray("reads before"), &quiet(100), "count")),
+        "behind" => stray("behind"),
+        "before" => stray("before"),
+        "behind words" => stray("behind words"),
         "aborts" => std::process::abort(),
         _ => {
             fault::limit(1);
@@ -1302,7 +1320,7 @@ fn strays() {
 #[test]
 fn reads_outside_a_slice_end_the_run() {
     let program = std::env::current_exe().expect("this program");
-    for how in ["behind", "before", "aborts", "without end"] {
+    for how in ["behind", "before", "behind words", "aborts", "without end"] {
         let output = std::process::Command::new(&program)
             .args(["--exact", "tests::strays", "--ignored", "--nocapture", "--test-threads", "1"])
             .env("COMPARE_STRAY", how)
@@ -1311,6 +1329,7 @@ fn reads_outside_a_slice_end_the_run() {
         let text = String::from_utf8_lossy(&output.stdout);
         assert_eq!(output.status.code(), Some(1), "{how}: {text}");
         assert!(text.contains("the engine did not come back"), "{how}: {text}");
+        assert_eq!(text.contains(" on words, seed"), how == "behind words", "{how}: {text}");
         assert!(text.ends_with("passed, 1 failed\n"), "{how}: {text}");
     }
 }
