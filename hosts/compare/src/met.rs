@@ -2,9 +2,104 @@
 
 use crate::call::{Answer, Call};
 use crate::engine::words;
+use crate::sizes::ARRAYS;
+use second::room;
 
-/// What a call met, so that the report shows what the draws reach.
-pub fn met(call: &Call, answer: &Answer) -> Vec<&'static str> {
+/// What a call on this book met, so that the report shows what the draws reach.
+pub fn met(call: &Call, book: &[u8], answer: &Answer) -> Vec<&'static str> {
+    let mut met = of_answer(call, answer);
+    if call.is_on_a_book() {
+        met.extend(of_book(book));
+    }
+    met.extend(of_lines(call, book, answer));
+    if call.has_words(book) {
+        met.push("on words");
+    }
+    met
+}
+
+/// By array: books of about its size in a longer slice, in one of just their
+/// words and in a shorter one; files that bring a book there and fit, or do not.
+const ABOUT: [[&str; 5]; 4] = [
+    [
+        "about 25 entries in a longer slice",
+        "about 25 entries in a slice as long",
+        "about 25 entries in a shorter slice",
+        "lines to about 25 entries fit",
+        "lines to about 25 entries too many",
+    ],
+    [
+        "about 127 entries in a longer slice",
+        "about 127 entries in a slice as long",
+        "about 127 entries in a shorter slice",
+        "lines to about 127 entries fit",
+        "lines to about 127 entries too many",
+    ],
+    [
+        "about 768 entries in a longer slice",
+        "about 768 entries in a slice as long",
+        "about 768 entries in a shorter slice",
+        "lines to about 768 entries fit",
+        "lines to about 768 entries too many",
+    ],
+    [
+        "about 3,072 entries in a longer slice",
+        "about 3,072 entries in a slice as long",
+        "about 3,072 entries in a shorter slice",
+        "lines to about 3,072 entries fit",
+        "lines to about 3,072 entries too many",
+    ],
+];
+
+/// The labels of the array that so many entries are about: one less to two more.
+fn about(entries: usize) -> Option<&'static [&'static str; 5]> {
+    let array = ARRAYS.iter().position(|array| (array - 1..array + 3).contains(&entries))?;
+    Some(&ABOUT[array])
+}
+
+/// The number of entries that the first word says; None where there is none.
+fn stated(book: &[u8]) -> Option<usize> {
+    let first = u32::from_le_bytes(book.get(..4)?.try_into().ok()?);
+    (first >> 28 == 6).then_some((first & 0x0FFF_FFFF) as usize)
+}
+
+/// What a book's number of entries is beside its slice.
+fn of_book(book: &[u8]) -> Vec<&'static str> {
+    let mut met = Vec::new();
+    let Some(entries) = stated(book).filter(|_| book.len() % 4 == 0) else {
+        return met;
+    };
+    let used = 4 * (3 + 5 * entries);
+    if let Some(labels) = about(entries) {
+        met.push(match book.len() {
+            length if length > used => labels[0],
+            length if length == used => labels[1],
+            _ => labels[2],
+        });
+    }
+    if entries > room(book.len() / 4) {
+        met.push("more entries than room");
+    } else if let Some(behind) = book.get(used..used + 20) {
+        // A book of these five words alone: are they an entry's?
+        let alone = [&[0x6000_0001, 0x7000_0000, 0x8000_0000][..], &words(behind).expect("words")];
+        let entry = second::is_book(&alone.concat());
+        met.push(if entry { "an entry's words behind" } else { "other words behind" });
+    }
+    met
+}
+
+/// Whether a file's lines bring a book about an array's size.
+fn of_lines(call: &Call, book: &[u8], answer: &Answer) -> Option<&'static str> {
+    let (Call::ReadFile { file }, 0 | 9) = (call, answer.cause()) else {
+        return None;
+    };
+    let lines = words(file)?.iter().filter(|word| **word >> 28 == 3).count();
+    let labels = about(stated(book)? + lines).filter(|_| lines > 0)?;
+    Some(if answer.cause() == 0 { labels[3] } else { labels[4] })
+}
+
+/// What an answer says.
+fn of_answer(call: &Call, answer: &Answer) -> Vec<&'static str> {
     let mut met = Vec::new();
     let mut when = |holds: bool, label: &'static str| {
         if holds {

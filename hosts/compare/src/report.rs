@@ -17,13 +17,13 @@ pub struct Counts {
 
 impl Counts {
     /// A comparison without a difference.
-    pub fn alike(&mut self, call: &Call, answer: &Answer) {
+    pub fn alike(&mut self, call: &Call, book: &[u8], answer: &Answer) {
         self.compared += 1;
         match answer.cause() {
             0 => self.accepted += 1,
             cause => *self.refused.entry(cause).or_insert(0) += 1,
         }
-        for label in met(call, answer) {
+        for label in met(call, book, answer) {
             *self.met.entry(label).or_insert(0) += 1;
         }
     }

@@ -66,7 +66,7 @@ pub fn single(engine: &impl Engine, plan: &Plan, name: &'static str) -> Counts {
         lent.lend_book(&mut rng, &book);
         match lent.compare(engine, &mut rng, &mut model, &call) {
             Ok(answer) => {
-                counts.alike(&call, &answer);
+                counts.alike(&call, &book, &answer);
                 fault::counted(false);
                 if plan.only.is_some() {
                     println!("  both answer {answer:?}");
@@ -121,7 +121,7 @@ pub fn lists(engine: &impl Engine, plan: &Plan) -> BTreeMap<&'static str, Counts
             compared += 1;
             match lent.compare(engine, &mut rng, &mut model, &call) {
                 Ok(answer) => {
-                    counts.alike(&call, &answer);
+                    counts.alike(&call, &before, &answer);
                     fault::counted(false);
                     if plan.only.is_some() {
                         println!("    both answer {answer:?}");

@@ -3,6 +3,7 @@
 use super::world::{days_about_a_month, World};
 use crate::engine::{bytes, words};
 use crate::rng::Rng;
+use crate::sizes::ARRAYS;
 use second::{
     Book, Entry, BILATERAL_SALE, CANCELLED, LAST_PARTY, MOST_VOLUME, PROGRAM, STANDING,
     UPDATED_PROGRAM,
@@ -23,9 +24,12 @@ fn size(rng: &mut Rng) -> usize {
     size as usize
 }
 
-/// A book of this world.
-pub fn book(rng: &mut Rng, world: &World) -> Book {
-    let size = size(rng);
+/// A number of entries about an array's size: one less, so many, one or two more.
+pub fn edge_size(rng: &mut Rng) -> usize {
+    rng.pick(&ARRAYS) - 1 + rng.index(4)
+}
+
+fn entries(rng: &mut Rng, world: &World, size: usize) -> Vec<Entry> {
     let mut entries = Vec::with_capacity(size);
     for i in 0..size {
         // A large book repeats its first entries with other amounts.
@@ -39,6 +43,13 @@ pub fn book(rng: &mut Rng, world: &World) -> Book {
             entries.push(e);
         }
     }
+    entries
+}
+
+/// A book of this world.
+pub fn book(rng: &mut Rng, world: &World) -> Book {
+    let size = size(rng);
+    let entries = entries(rng, world, size);
     let mut book = Book { coefficient: world.coefficient, tolerance: world.tolerance, entries };
     if size < 200 && rng.percent(30) {
         level_programs(rng, world, &mut book);
@@ -47,6 +58,37 @@ pub fn book(rng: &mut Rng, world: &World) -> Book {
         tune(rng, world, &mut book);
     }
     book
+}
+
+/// A book of so many entries, in which one day at most is closed: a large one
+/// of any entries has marks of all its days.
+pub fn book_of(rng: &mut Rng, world: &World, size: usize) -> Book {
+    let closed = world.day(rng);
+    let mut entries = entries(rng, world, size);
+    for e in &mut entries {
+        while e.is_mark() && e.day != closed {
+            *e = world.entry(rng);
+        }
+    }
+    Book { coefficient: world.coefficient, tolerance: world.tolerance, entries }
+}
+
+/// The bytes of a book about an array's size, in a slice that is longer than
+/// its words, as long or shorter.
+pub fn at_an_edge(rng: &mut Rng, world: &World) -> Vec<u8> {
+    let size = edge_size(rng);
+    let book = book_of(rng, world, size);
+    let used = 3 + 5 * size;
+    let behind = rng.pick(&[0, 0, 0, 0, 1, 4, 5, 5, 9, 10, 60]);
+    let mut lent = lent_with(rng, world, &book, behind);
+    if rng.percent(35) {
+        // A word or a place too few, the words of an array, or any.
+        let array = 3 + 5 * (rng.pick(&ARRAYS) + 1) + rng.index(3) - 1;
+        let any = rng.index(used);
+        let shorter = rng.pick(&[used - 1, used - 5, array.min(used - 1), any]);
+        lent.truncate(4 * shorter);
+    }
+    lent
 }
 
 /// Adds to a program or to its update, so that both sums are equal or within a kWh of it.

@@ -1,7 +1,9 @@
 //! Day files.
 
+use super::books::{book_of, edge_size, lent_with};
 use super::odd;
 use super::world::{some_mark, Taste, World};
+use crate::call::Call;
 use crate::engine::bytes;
 use crate::rng::Rng;
 use crate::sizes::MOST_FILE;
@@ -76,11 +78,43 @@ pub fn file(rng: &mut Rng, world: &World, book: Option<&Book>) -> Vec<u8> {
 /// A file at or near the longest length.
 pub fn long_file(rng: &mut Rng, world: &World) -> Vec<u8> {
     let blocks = large(rng, world);
+    seldom_spoilt(rng, blocks)
+}
+
+fn seldom_spoilt(rng: &mut Rng, blocks: Vec<Block>) -> Vec<u8> {
     if rng.percent(70) {
         bytes(&file_words(&blocks))
     } else {
         spoilt(rng, blocks)
     }
+}
+
+/// A book and a file whose lines make it one about an array's size: all fit, or
+/// one does not.
+pub fn file_to_an_edge(rng: &mut Rng, world: &World) -> (Vec<u8>, Call) {
+    let entries = edge_size(rng);
+    let few = rng.between(1, 3) as usize;
+    let any = rng.between(1, entries as u64) as usize;
+    let lines = rng.pick(&[few, few, entries, any]);
+    let book = book_of(rng, world, entries - lines);
+    let places = 5 * lines - rng.pick(&[0, 0, 1, 5]);
+    let behind = places + rng.pick(&[0, 0, 4, 5, 60]);
+    let lent = lent_with(rng, world, &book, behind);
+
+    let mut blocks = vec![repeating(rng, world, lines, 100)];
+    if rng.percent(40) {
+        // Lines in two blocks, of which one may have none.
+        let first = &mut blocks[0];
+        let lines = first.lines.split_off(rng.index(lines + 1));
+        let (party, day) = (first.party, first.day);
+        blocks.push(Block { party, day, lines });
+    }
+    let closed = book.is_closed(blocks[0].day);
+    if closed && rng.percent(90) {
+        let open = (0..LAST_DAY).find(|day| !book.is_closed(*day)).unwrap_or(0);
+        blocks.iter_mut().for_each(|block| block.day = open);
+    }
+    (lent, Call::ReadFile { file: seldom_spoilt(rng, blocks) })
 }
 
 /// The bytes of a file, some with faulty lines, some of wrong shape.
@@ -139,6 +173,17 @@ fn block(rng: &mut Rng, world: &World, lines: u64) -> Block {
     }
 }
 
+/// A block of many lines: the first so many are drawn, and then repeated.
+fn repeating(rng: &mut Rng, world: &World, lines: usize, drawn: usize) -> Block {
+    let mut block = block(rng, world, lines.min(drawn) as u64);
+    while block.lines.len() < lines {
+        let again = block.lines.len() % drawn;
+        let line = &block.lines[again];
+        block.lines.push(Line { ..*line });
+    }
+    block
+}
+
 /// One wrong figure of a block or of one of its lines.
 fn faulty(rng: &mut Rng, block: &mut Block) {
     let place = rng.index(block.lines.len().max(1));
@@ -184,13 +229,7 @@ fn large(rng: &mut Rng, world: &World) -> Vec<Block> {
     while number > 0 {
         let here = if number == 1 { lines } else { lines.min(rng.between(0, most) as i64) };
         let here = here.min(4_095);
-        let mut block = block(rng, world, here.min(3) as u64);
-        while (block.lines.len() as i64) < here {
-            let again = block.lines.len() % 3;
-            let line = &block.lines[again];
-            block.lines.push(Line { ..*line });
-        }
-        blocks.push(block);
+        blocks.push(repeating(rng, world, here as usize, 3));
         lines -= here;
         number -= 1;
     }

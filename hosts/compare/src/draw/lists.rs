@@ -1,6 +1,6 @@
 //! Lists of calls on one book.
 
-use super::books::{book, damage, lent, seen};
+use super::books::{book, book_of, damage, edge_size, lent, lent_with, seen};
 use super::call;
 use super::world::{Taste, World};
 use crate::call::Call;
@@ -26,7 +26,14 @@ pub fn list_start(rng: &mut Rng) -> (World, Vec<u8>) {
             second::open(&mut words, world.coefficient, world.tolerance);
             bytes(&words)
         }
-        7 | 8 => {
+        7 => {
+            // A book that the list makes too large for an array.
+            let size = edge_size(rng) - rng.index(12);
+            let behind = rng.between(0, 100) as usize;
+            let book = book_of(rng, &world, size);
+            lent_with(rng, &world, &book, behind)
+        }
+        8 => {
             let book = book(rng, &world);
             lent(rng, &world, &book)
         }

@@ -14,9 +14,9 @@ pub use lists::{list_call, list_length, list_script, list_start};
 
 use crate::call::Call;
 use crate::rng::Rng;
-use books::{book, chain, damage, lent, lent_with, seen};
+use books::{at_an_edge, book, chain, damage, lent, lent_with, seen};
 use figures::{case, ceiling, first_day, month};
-use files::{file, long_file};
+use files::{file, file_to_an_edge, long_file};
 use second::{Book, LAST_DAY, MOST_COEFFICIENT, MOST_ENTRIES, MOST_TOLERANCE};
 use world::{days_before, some_mark, Taste, World};
 
@@ -68,8 +68,8 @@ fn legal(rng: &mut Rng, low: u64, high: u64) -> u64 {
     }
 }
 
-/// A book and one call of this name on it.
-pub fn round(rng: &mut Rng, name: &str) -> (Vec<u8>, Call) {
+/// The world of a round of this call.
+fn world_of(rng: &mut Rng, name: &str) -> World {
     let taste = match name {
         "control" => Taste::Bilateral,
         "collateral" => rng.pick(&[Taste::Money, Taste::Money, Taste::Level]),
@@ -91,48 +91,67 @@ pub fn round(rng: &mut Rng, name: &str) -> (Vec<u8>, Call) {
             world.parties.truncate(1);
         }
     }
+    world
+}
+
+/// A book and one call of this name on it.
+pub fn round(rng: &mut Rng, name: &str) -> (Vec<u8>, Call) {
+    let world = world_of(rng, name);
+    let about_an_array = rng.percent(if name == "read_file" { 15 } else { 10 });
     match name {
-        "open" | "open_default" => {
-            let call = if name == "open" { open(rng) } else { Call::OpenDefault };
+        "open" | "open_default" if !about_an_array && rng.percent(80) => {
+            let call = call(rng, name, &world, None);
             return (rubbish(rng), call);
         }
         "detected" | "ceiling" | "first_day" | "month" => {
             return (Vec::new(), call(rng, name, &world, None))
         }
+        "read_file" if about_an_array && rng.percent(50) => return file_to_an_edge(rng, &world),
+        "read_file" if rng.below(1_000) < 3 => return long_file_round(rng, &world),
+        "control" if !about_an_array && rng.percent(40) => return chain_round(rng, &world),
         _ => (),
     }
-    let (book, day) = if name == "control" && rng.percent(40) {
-        let (book, day) = chain(rng, &world);
-        (book, Some(day))
+    let mut lent = if about_an_array {
+        at_an_edge(rng, &world)
     } else {
-        (book(rng, &world), None)
+        let book = book(rng, &world);
+        if name == "read_file" && rng.percent(50) {
+            let behind = rng.between(10, 500) as usize;
+            lent_with(rng, &world, &book, behind)
+        } else {
+            lent(rng, &world, &book)
+        }
     };
-    if name == "read_file" && rng.below(1_000) < 3 {
-        // A long file meets a book with room for all, or all but a few, of its lines.
-        let places = MOST_ENTRIES - book.entries.len().min(MOST_ENTRIES - 10);
-        let behind = 5 * (places - rng.index(3)) + rng.index(50);
-        let lent = lent_with(rng, &world, &book, behind);
-        let file = long_file(rng, &world);
-        return (lent, Call::ReadFile { file });
-    }
-    let mut lent = if name == "read_file" && rng.percent(50) {
-        let behind = rng.between(10, 500) as usize;
-        lent_with(rng, &world, &book, behind)
-    } else {
-        lent(rng, &world, &book)
-    };
-    let damaged = if name == "is_book" { 60 } else { 9 };
+    let damaged = if name == "is_book" && !about_an_array { 60 } else { 9 };
     if rng.percent(damaged) {
         damage(rng, &mut lent);
     }
-    let call = match day {
-        Some(day) if rng.percent(95) => Call::Control { day },
-        _ => {
-            let seen = seen(&lent);
-            call(rng, name, &world, seen.as_ref())
-        }
+    let call = call(rng, name, &world, seen(&lent).as_ref());
+    (lent, call)
+}
+
+/// A control of a chain of sales.
+fn chain_round(rng: &mut Rng, world: &World) -> (Vec<u8>, Call) {
+    let (book, day) = chain(rng, world);
+    let mut lent = lent(rng, world, &book);
+    if rng.percent(9) {
+        damage(rng, &mut lent);
+    }
+    let call = if rng.percent(95) {
+        Call::Control { day }
+    } else {
+        call(rng, "control", world, seen(&lent).as_ref())
     };
     (lent, call)
+}
+
+/// A long file meets a book with room for all, or all but a few, of its lines.
+fn long_file_round(rng: &mut Rng, world: &World) -> (Vec<u8>, Call) {
+    let book = book(rng, world);
+    let places = MOST_ENTRIES - book.entries.len().min(MOST_ENTRIES - 10);
+    let behind = 5 * (places - rng.index(3)) + rng.index(50);
+    let lent = lent_with(rng, world, &book, behind);
+    (lent, Call::ReadFile { file: long_file(rng, world) })
 }
 
 /// Words to open a book on: short, long, no words at all.
@@ -221,6 +240,10 @@ fn number(rng: &mut Rng, book: Option<&Book>, withdrawal: bool) -> u32 {
     let entries = book.entries.len();
     if entries == 0 || rng.percent(10) {
         return odd(rng, entries as u32);
+    }
+    if entries > 20 && rng.percent(20) {
+        // One of the last, which a small array would not have.
+        return (entries - 1 - rng.index(3)) as u32;
     }
     if withdrawal && entries < 200 {
         let closed = rng.percent(35);
