@@ -24,6 +24,8 @@ macro_rules! as_second {
     };
 }
 
+mod lending;
+
 fn quiet(rounds: u64) -> Plan {
     Plan { seed: 7, rounds, only: None, loud: false, first_only: false }
 }
@@ -461,6 +463,16 @@ impl Engine for Wrong {
         if self.slips("withdraw: an updated program of a closed day is refused") && right == 0 {
             let day = entry.filter(|e| e.entry_type == 22).map(|e| e.day);
             if day.is_some_and(|day| held.expect("a book").is_closed(day)) {
+                book.copy_from_slice(&before);
+                return 8;
+            }
+        }
+        if self.slips("withdraw: a mark behind the last entry closes its day") && right == 0 {
+            let mut w = words(&before).expect("words");
+            w[0] += 1;
+            let last = second::decode(&w).and_then(|more| more.entries.last().copied());
+            let closes = |e: &Entry| last.is_some_and(|mark| mark.is_mark() && mark.day == e.day);
+            if entry.is_some_and(|e| e.is_sale_to_party() && closes(&e)) {
                 book.copy_from_slice(&before);
                 return 8;
             }
@@ -1070,7 +1082,7 @@ impl Wrong {
     }
 }
 
-const SLIPS: [&str; 119] = [
+const SLIPS: [&str; 120] = [
     "is_book: status 3 is allowed",
     "is_book: a cancelled export is allowed",
     "is_book: more than 3,072 entries are allowed",
@@ -1110,6 +1122,7 @@ const SLIPS: [&str; 119] = [
     "withdraw: a cancelled sale",
     "withdraw: a mark",
     "withdraw: on a closed day",
+    "withdraw: a mark behind the last entry closes its day",
     "withdraw: an updated program of a closed day is refused",
     "count: without marks",
     "entry: marks are not read",
