@@ -1,4 +1,4 @@
 pub mod ControlLaws
 pub mod CancelLaws
 pub mod RunLaws
-pub mod SecondLaws
+pub mod NobodyLaws

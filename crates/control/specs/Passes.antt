@@ -1,12 +1,12 @@
 -- What a pass of a control makes of a book's words, and its counts.
 -- Only the contracts of internal functions cite these; the laws tie them to rules/specs/Control.
-use mathlib.Core.Bool.{Bool, _||_}
+use mathlib.Core.Bool.{Bool, false, not, cond, _||_}
 use mathlib.Core.List.{List, [], _∷_}
 use Prim.Native.Nat.{ℕ}
 use lib.Dec.{eqb}
 use Rattle.numbers.specs.Sums.{count}
 use Rattle.numbers.specs.Tests.{every}
-use Rattle.rules.specs.Entry.{Record, key, isCancelled}
+use Rattle.rules.specs.Entry.{Record, key, isStanding, isCancelled, isExport, bilateral}
 use Rattle.rules.specs.Words.{entries, coefficientOf, toleranceOf, laid}
 use Rattle.rules.specs.Control.{Parties, isToCancel, cancelOf, detectedParties}
 use Rattle.control.specs.declared.passes.Passed.{Passed}
@@ -18,10 +18,25 @@ cancelledWords who d ws = laid (coefficientOf ws) (toleranceOf ws) (cancelOf who
 unfoldable pub passOf : Parties → ℕ → List ℕ → Passed
 passOf who d ws = record { parties = detectedParties who; entries = count (isToCancel who d) (entries ws) }
 
+-- a pass without parties
+abbrev pub nobody : Parties
+nobody p = false
+
 -- a cancelled entry of the day
 unfoldable pub isCancelledOn : ℕ → Record → Bool
 isCancelledOn d r = every (isCancelled r ∷ eqb (key r .day) d ∷ [])
 
--- whether one was seen, with one entry more
-unfoldable pub seen : ℕ → Record → Bool → Bool
-seen d r s = s || isCancelledOn d r
+-- a standing sale of the day in the day-ahead balance, no export: types 1, 3, 4 and 6 (Article 7)
+abbrev pub isSaleType : ℕ → Bool
+isSaleType t = ((eqb t 1 || eqb t 3) || eqb t 4) || eqb t bilateral
+
+unfoldable pub isSaleOn : ℕ → Record → Bool
+isSaleOn d r =
+    every (isStanding r ∷ eqb (key r .day) d ∷ isSaleType (key r .type) ∷ not (isExport (key r)) ∷ [])
+
+-- either of the two, and whether one was seen, with one entry more
+unfoldable pub isSought : Bool → ℕ → Record → Bool
+isSought cancelled d r = cond cancelled (isCancelledOn d r) (isSaleOn d r)
+
+unfoldable pub seen : Bool → ℕ → Record → Bool → Bool
+seen cancelled d r s = s || isSought cancelled d r

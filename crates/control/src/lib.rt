@@ -5,6 +5,7 @@ ghost use Rattle.rules.specs.Calls as calls;
 use rules::Controlled;
 use rules::causes;
 
+mod nobody;
 mod passes;
 
 fn control_cause(book: &[u32], day: u32) -> u32
@@ -32,8 +33,8 @@ fn run(book: &mut [u32], day: u32) -> Controlled
     ensures answer { λ r. ⌜ r ≡ controlAnswer (now (book .entry)) day ⌝ }
     ensures words { λ r. ⌜ now (book .exit) ≡ wordsAfter (now (book .entry)) (calls.control day) ⌝ }
 {
-    let first = passes::pass(book, day, false);
-    let second = passes::second_pass(book, day);
+    let first = passes::run_pass(book, day, false);
+    let second = passes::run_pass(book, day, true);
     passes::append_mark(book, day);
     Controlled {
         answer: 0,

@@ -1,16 +1,16 @@
 // Internal: one pass of a control over a checked book, and the mark. A caller meets each `requires`.
 ghost use mathlib.Core.Path.{_≡_};
-ghost use mathlib.Core.Bool.{true, false};
+ghost use mathlib.Core.Bool.{true};
 ghost use Prim.Native.Nat.{_+_, _<_, _≤_};
 ghost use lib.ListN.{length};
 ghost use Rattle.numbers.specs.Sums.{count};
-ghost use Rattle.numbers.specs.Tests.{any};
 ghost use Rattle.rules.specs.Entry.{keyOf, markType, lastParty, lastDay, recordIn};
 ghost use Rattle.rules.specs.Words.{isBook, entries, countOf, roomIn};
 ghost use Rattle.rules.specs.Stores.{posted};
 ghost use Rattle.rules.specs.Control.{isToCancel, detectedParties};
 ghost use Rattle.detection.specs.Tables.{flagged, ofPass};
-ghost use Rattle.control.specs.Passes.{cancelledWords, passOf, isCancelledOn};
+ghost use Rattle.control.specs.Passes.{cancelledWords, passOf};
+use crate::nobody;
 use detection::sums::Flags;
 use rules::Entry;
 use rules::Key;
@@ -73,9 +73,9 @@ fn count_flags(flags: &Flags) -> u32
     n
 }
 
-// One pass: its parties are counted, and their sales cancelled together. Two calls of it keep the compiler from putting
-// its table, 144,000 bytes, into the frame of its caller: a refused control needs no such stack.
-pub fn pass(book: &mut [u32], day: u32, second: bool) -> Passed
+// One pass by a table: its parties are counted, and their sales cancelled together. Two calls of it keep the compiler from
+// putting the table, 144,000 bytes, into the frame of its caller: a control that needs no table needs no such stack.
+fn pass(book: &mut [u32], day: u32, second: bool) -> Passed
     requires { ⌜ isBook (now book) ≡ true ⌝ }
     ensures counts { λ r. ⌜ r ≡ passOf (ofPass second (now (book .entry)) day) day (now (book .entry)) ⌝ }
     ensures words { λ r. ⌜ now (book .exit) ≡ cancelledWords (ofPass second (now (book .entry)) day) day (now (book .entry)) ⌝ }
@@ -87,36 +87,22 @@ pub fn pass(book: &mut [u32], day: u32, second: bool) -> Passed
     Passed { parties, entries }
 }
 
-// Whether an entry of the day is cancelled: false only where none is.
-fn has_cancelled(book: &[u32], day: u32) -> bool
+// A pass. One that has nobody counts none, cancels nothing and needs no table.
+pub fn run_pass(book: &mut [u32], day: u32, second: bool) -> Passed
     requires { ⌜ isBook (now book) ≡ true ⌝ }
-    ensures { λ r. ⌜ (r ≡ false → any (isCancelledOn day) (entries (now (book .entry))) ≡ false) ⌝ }
+    ensures counts { λ r. ⌜ r ≡ passOf (ofPass second (now (book .entry)) day) day (now (book .entry)) ⌝ }
+    ensures words { λ r. ⌜ now (book .exit) ≡ cancelledWords (ofPass second (now (book .entry)) day) day (now (book .entry)) ⌝ }
 {
-    let count = words::count_of(book) as usize;
-    let mut i = 0;
-    while i < count {
-        let e = words::read_at(book, HEAD_WORDS + ENTRY_WORDS * i);
-        if (e.status == CANCELLED) & (e.key.day == day) {
-            return true;
-        }
-        i += 1;
-    }
-    false
-}
-
-// The second pass. Without a cancelled entry of the day no pair is repeated, and the pass has no party.
-pub fn second_pass(book: &mut [u32], day: u32) -> Passed
-    requires { ⌜ isBook (now book) ≡ true ⌝ }
-    ensures counts { λ r. ⌜ r ≡ passOf (ofPass true (now (book .entry)) day) day (now (book .entry)) ⌝ }
-    ensures words { λ r. ⌜ now (book .exit) ≡ cancelledWords (ofPass true (now (book .entry)) day) day (now (book .entry)) ⌝ }
-{
-    if !has_cancelled(book, day) {
+    if nobody::has_nobody(book, day, second) {
         return Passed {
             parties: 0,
             entries: 0,
         };
     }
-    pass(book, day, true)
+    if second {
+        return pass(book, day, true);
+    }
+    pass(book, day, false)
 }
 
 // The mark of a day takes the next place.

@@ -1,18 +1,18 @@
--- `control::passes::has_cancelled` meets its contract. The loop's invariant: none of the entries passed is one. Assumes nothing.
+-- `control::nobody::has_entry` meets its contract. The loop's invariant: none of the entries passed is one. Assumes nothing.
 use mathlib.Core.Bool.{false, true≢false}
 use Prim.Native.Nat.{_-_}
 use Rattle.cells.proofs.ScanLaws.{Scanned, scan}
 use Rattle.control.specs.Passes.{seen}
-use Rattle.control.proofs.SecondLaws.{not-seen, none-seen}
+use Rattle.control.proofs.NobodyLaws.{not-seen, none-seen}
 use borrow.Author.Needs.{needs}
-use Rattle.control.proofs.passes.has_cancelled.Statement.{statement}
-use Rattle.control.proofs.passes.has_cancelled.Tie as tie
+use Rattle.control.proofs.nobody.has_entry.Statement.{statement}
+use Rattle.control.proofs.nobody.has_entry.Tie as tie
 
 abbrev Inv-loop : tie.InvT-loop
-Inv-loop book day count i₀ i = Scanned (seen day) false book count i false
+Inv-loop book day cancelled count i₀ i = Scanned (seen cancelled day) false book count i false
 
 abbrev μ-loop : tie.MeasureT-loop
-μ-loop book day count i₀ i = count - i
+μ-loop book day cancelled count i₀ i = count - i
 
 count-of-requires : tie.Need-count-of-requires Inv-loop μ-loop
 count-of-requires c κs = search scan
@@ -32,6 +32,9 @@ add-read-at c = search needs
 read-at-requires : tie.Need-read-at-requires Inv-loop μ-loop
 read-at-requires c κs = search scan
 
+is-sought-requires : tie.Need-is-sought-requires Inv-loop μ-loop
+is-sought-requires c κs = search needs
+
 returns : tie.Need-returns Inv-loop μ-loop
 returns c = λ q. absurd (true≢false q)
 
@@ -45,10 +48,10 @@ loop-again : tie.Need-loop-again Inv-loop μ-loop
 loop-again c = search (scan, not-seen)
 
 returns-2 : tie.Need-returns-2 Inv-loop μ-loop
-returns-2 c = λ q. none-seen _ _ (search scan)
+returns-2 c = λ q. none-seen _ _ _ (search scan)
 
-pub has-cancelled-spec : {M : Type 1} → statement M
-has-cancelled-spec =
+pub has-entry-spec : {M : Type 1} → statement M
+has-entry-spec =
     tie.close
     (tie.spec
     Inv-loop
@@ -59,6 +62,7 @@ has-cancelled-spec =
     mul-read-at
     add-read-at
     read-at-requires
+    is-sought-requires
     returns
     add-i
     loop-less
