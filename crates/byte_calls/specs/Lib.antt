@@ -1,3 +1,4 @@
 -- Calls on a book in lent bytes.
+pub mod Sizes
 pub mod Requests
 pub mod Questions

@@ -7,6 +7,7 @@ ghost use Rattle.rules.specs.Calls.{wordsAfter};
 ghost use Rattle.word_bytes.specs.Bytes.{withWords};
 ghost use Rattle.word_bytes.specs.Coding.{neededFor};
 ghost use Rattle.byte_calls.specs.Requests.{changeOf, doneIn, doneOn};
+ghost use Rattle.byte_calls.specs.Sizes.{wideWords};
 use crate::sizes::MIDDLE_WORDS;
 use crate::sizes::SMALL_WORDS;
 use crate::sizes::WIDE_WORDS;
@@ -96,7 +97,7 @@ fn change_on(words: &mut [u32], book: &mut [u8], request: Request) -> Done
 }
 
 fn change_wide(book: &mut [u8], request: Request) -> Done
-    requires { ⌜ neededFor 1 (now book) ≤ 3848 ⌝ }
+    requires { ⌜ neededFor 1 (now book) ≤ wideWords ⌝ }
     ensures answer { λ r. ⌜ r ≡ doneOn (now (book .entry)) (changeOf request) ⌝ }
     ensures bytes { λ r. ⌜ now (book .exit) ≡ withWords (now (book .entry)) (λ ws. wordsAfter ws (changeOf request)) ⌝ }
 {

@@ -7,6 +7,7 @@ ghost use Rattle.rules.specs.Refusals.{notABook};
 ghost use Rattle.rules.specs.Collateral.{collateralAnswer, refusedCollateral};
 ghost use Rattle.word_bytes.specs.Bytes.{onWords};
 ghost use Rattle.word_bytes.specs.Coding.{neededFor};
+ghost use Rattle.byte_calls.specs.Sizes.{wideWords};
 use crate::sizes::MIDDLE_WORDS;
 use crate::sizes::SMALL_WORDS;
 use crate::sizes::WIDE_WORDS;
@@ -24,7 +25,7 @@ fn secure_on(words: &mut [u32], book: &[u8], case: Case) -> Collateral
 }
 
 fn secure_wide(book: &[u8], case: Case) -> Collateral
-    requires { ⌜ neededFor 0 (now book) ≤ 3848 ⌝ }
+    requires { ⌜ neededFor 0 (now book) ≤ wideWords ⌝ }
     ensures { λ r. ⌜ r ≡ onWords (now (book .entry)) (λ ws. collateralAnswer ws case) (refusedCollateral notABook) ⌝ }
 {
     let mut words = [0u32; WIDE_WORDS];

@@ -8,6 +8,7 @@ ghost use Rattle.rules.specs.Calls.{wordsAfter, fileAnswer};
 ghost use Rattle.rules.specs.Calls as calls;
 ghost use Rattle.word_bytes.specs.Bytes.{onWords, withWords};
 ghost use Rattle.word_bytes.specs.Coding.{neededFor};
+ghost use Rattle.byte_calls.specs.Sizes.{wideWords};
 use crate::sizes::MIDDLE_WORDS;
 use crate::sizes::SMALL_WORDS;
 use crate::sizes::WIDE_WORDS;
@@ -30,7 +31,7 @@ fn read_on(words: &mut [u32], book: &mut [u8], file: &[u8]) -> FileRead
 }
 
 fn read_wide(book: &mut [u8], file: &[u8]) -> FileRead
-    requires { ⌜ neededFor (length (now file) / 12) (now book) ≤ 3848 ⌝ }
+    requires { ⌜ neededFor (length (now file) / 12) (now book) ≤ wideWords ⌝ }
     ensures answer { λ r. ⌜ r ≡ onWords (now (book .entry)) (λ ws. fileAnswer ws (now (file .entry))) (record { answer = notABook; posted = 0 }) ⌝ }
     ensures bytes { λ r. ⌜ now (book .exit) ≡ withWords (now (book .entry)) (λ ws. wordsAfter ws (calls.file (now (file .entry)))) ⌝ }
 {

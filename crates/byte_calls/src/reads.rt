@@ -6,6 +6,7 @@ ghost use lib.ListN.{length};
 ghost use Rattle.rules.specs.Words.{bookWords};
 ghost use Rattle.word_bytes.specs.Coding.{neededFor};
 ghost use Rattle.byte_calls.specs.Questions.{noReply, replyIn, replyOn};
+ghost use Rattle.byte_calls.specs.Sizes.{wideWords};
 use crate::sizes::MIDDLE_WORDS;
 use crate::sizes::SMALL_WORDS;
 use crate::sizes::WIDE_WORDS;
@@ -117,7 +118,7 @@ fn ask_on(words: &mut [u32], book: &[u8], question: Question) -> Reply
 }
 
 fn ask_wide(book: &[u8], question: Question) -> Reply
-    requires { ⌜ neededFor 0 (now book) ≤ 3848 ⌝ }
+    requires { ⌜ neededFor 0 (now book) ≤ wideWords ⌝ }
     ensures { λ r. ⌜ r ≡ replyOn (now (book .entry)) question ⌝ }
 {
     let mut words = [0u32; WIDE_WORDS];

@@ -76,6 +76,14 @@ fn lesser(a: usize, b: usize) -> usize
     if a < b { a } else { b }
 }
 
+// The number of entries that a book's first word gives.
+fn count_at(bytes: &[u8]) -> usize
+    requires { ⌜ 4 ≤ length (now bytes) ⌝ }
+    ensures { λ r. ⌜ r ≡ countOf (wordsOf (now (bytes .entry))) ⌝ }
+{
+    (word_at(bytes, 0) % KIND) as usize
+}
+
 // How many words the entries of a book use with some places more, a full book's at most.
 fn used_with(count: usize, added: usize) -> usize
     requires { ⌜ count < values ⌝ }
@@ -85,14 +93,6 @@ fn used_with(count: usize, added: usize) -> usize
         return BOOK_WORDS;
     }
     lesser(BOOK_WORDS, HEAD_WORDS + ENTRY_WORDS * (count + added))
-}
-
-// The number of entries that a book's first word gives.
-fn count_at(bytes: &[u8]) -> usize
-    requires { ⌜ 4 ≤ length (now bytes) ⌝ }
-    ensures { λ r. ⌜ r ≡ countOf (wordsOf (now (bytes .entry))) ⌝ }
-{
-    (word_at(bytes, 0) % KIND) as usize
 }
 
 // The same by a book's bytes; those of less than a word have no entries.
