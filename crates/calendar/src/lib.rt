@@ -1222,7 +1222,7 @@ pub fn month_of(day: u32) -> u32
     let mut high: usize = 1200;
     while low + 1 < high {
         let middle = (low + high) / 2;
-        if starts[middle] as u32 <= day {
+        if (starts[middle] as u32) <= day {
             low = middle;
         } else {
             high = middle;
