@@ -3,17 +3,14 @@ use mathlib.Core.Path.{_≡_, refl, sym, ap, ap₂, _∙_, fun-ext}
 use mathlib.Core.Logic.{inl, inr}
 use mathlib.Core.Bool.{Bool, true, false, not, cond, _&&_, _||_, and-false, true≢false}
 use mathlib.Core.List.{List, [], _∷_}
-use Prim.Native.Nat.{ℕ, zero, suc, _*_, max}
+use Prim.Native.Nat.{ℕ, _*_, max}
 use native.Mathlib.Nat.{le-refl}
 use native.Mathlib.Omega.{arith}
 use lib.Dec.{eqb}
-use lib.IntN.{subℕ}
 use borrow.Author.Tests.{eqb-true}
 use Rattle.numbers.specs.Sums.{total, count, sum, countBelow}
-use Rattle.numbers.specs.Signed.{isPositive}
 use Rattle.numbers.specs.Tests.{every, any}
 use Rattle.numbers.proofs.SumLaws.{total-bound, sum-bound}
-use Rattle.numbers.proofs.SignedLaws.{sub-below}
 use Rattle.numbers.proofs.TestLaws.{bool-cases, or-false-split, every-holds, holds-every}
 use Rattle.rules.specs.Entry.{Record, key, isStanding, isBilateral, isExport, statusWhere, partyOk}
 use Rattle.rules.specs.Words.{isBook, entries, coefficientOf, toleranceOf, laid}
@@ -22,8 +19,10 @@ use Rattle.rules.specs.Control.{Parties, detectedIn, isRepeatedBuyer, isToCance
 use Rattle.rules.proofs.SumOrder.{forTests}
 use Rattle.rules.proofs.WordLaws.{book-laid}
 use Rattle.cells.specs.Cells.{over}
-use Rattle.detection.specs.Tables.{ofPass}
-use Rattle.control.specs.Passes.{cancelledWords, passOf, nobody, isCancelledOn, isSaleType, isSaleOn, isSought, seen}
+use Rattle.detection.specs.Tables.{isSaleType, ofPass}
+use Rattle.detection.proofs.FlagLaws.{not-above}
+use Rattle.detection.proofs.PairLaws.{any-none}
+use Rattle.control.specs.Passes.{cancelledWords, passOf, nobody, isCancelledOn, isSaleOn, isSought, seen}
 use Rattle.control.specs.declared.passes.Passed.{Passed}
 
 -- the entries of a book looked through, one after the other
@@ -41,11 +40,6 @@ module _ (c : Bool) (d : ℕ) where
 
   pub none-seen : (rs : List Record) → false ≡ over (seen c d) rs false → any (isSought c d) rs ≡ false
   none-seen rs e = sym (e ∙ seen-any rs false)
-
-any-none : (f g : Record → Bool) → ((r : Record) → g r ≡ false → f r ≡ false) → (rs : List Record) → any g rs ≡ false → any f rs ≡ false
-unfolding any
-any-none f g h [] e = refl
-any-none f g h (r ∷ rs) e = let s = or-false-split (g r) (any g rs) e in rw (h r (s .0)) (any-none f g h rs (s .1))
 
 module _ (d : ℕ) where
   spared : (r : Record) → isToCancel nobody d r ≡ false
@@ -65,14 +59,10 @@ module _ (d : ℕ) where
       ap₂ (λ x y. record { parties = x; entries = y }) (sym p) (sym n)
 
 -- without a sale of the day no sum of a sale has an amount, and no balance is above zero
-total-none : (f : Record → ℕ) (g : Record → Bool) → ((r : Record) → g r ≡ false → f r ≡ 0) → (rs : List Record) → any g rs ≡ false → total f rs ≡ 0
+total-without : (f : Record → ℕ) (g : Record → Bool) → ((r : Record) → g r ≡ false → f r ≡ 0) → (rs : List Record) → any g rs ≡ false → total f rs ≡ 0
 unfolding any total
-total-none f g h [] e = refl
-total-none f g h (r ∷ rs) e = let s = or-false-split (g r) (any g rs) e in omega (arith, h r (s .0), total-none f g h rs (s .1))
-
-not-above : (n : ℕ) → isPositive (subℕ 0 n) ≡ false
-not-above zero = refl
-not-above (suc n) = rw (sub-below 0 (suc n) (omega arith))
+total-without f g h [] e = refl
+total-without f g h (r ∷ rs) e = let s = or-false-split (g r) (any g rs) e in omega (arith, h r (s .0), total-without f g h rs (s .1))
 
 module _ (d p : ℕ) where
   not-counted : (t : ℕ) → isSaleType t ≡ true → (r : Record) → isSaleOn d r ≡ false → counted p d t r ≡ 0
@@ -90,7 +80,7 @@ module _ (d p : ℕ) where
   module _ (rs : List Record) (none : any (isSaleOn d) rs ≡ false) where
     no-sum : (t : ℕ) → isSaleType t ≡ true → sumOf p d t rs ≡ 0
     unfolding sumOf
-    no-sum t s = total-none (counted p d t) (isSaleOn d) (not-counted t s) rs none
+    no-sum t s = total-without (counted p d t) (isSaleOn d) (not-counted t s) rs none
 
     no-sales : saleSide dayAhead (tallyOf p d rs) ≡ 0
     unfolding saleSide tallyOf total

@@ -6,9 +6,10 @@ use Prim.Native.Nat.{ℕ}
 use lib.Dec.{eqb}
 use Rattle.numbers.specs.Sums.{count}
 use Rattle.numbers.specs.Tests.{every}
-use Rattle.rules.specs.Entry.{Record, key, isStanding, isCancelled, isExport, bilateral}
+use Rattle.rules.specs.Entry.{Record, key, isStanding, isCancelled, isExport}
 use Rattle.rules.specs.Words.{entries, coefficientOf, toleranceOf, laid}
 use Rattle.rules.specs.Control.{Parties, isToCancel, cancelOf, detectedParties}
+use Rattle.detection.specs.Tables.{isSaleType}
 use Rattle.control.specs.declared.passes.Passed.{Passed}
 
 -- the words after a pass, and its counts
@@ -26,10 +27,7 @@ nobody p = false
 unfoldable pub isCancelledOn : ℕ → Record → Bool
 isCancelledOn d r = every (isCancelled r ∷ eqb (key r .day) d ∷ [])
 
--- a standing sale of the day in the day-ahead balance, no export: types 1, 3, 4 and 6 (Article 7)
-abbrev pub isSaleType : ℕ → Bool
-isSaleType t = ((eqb t 1 || eqb t 3) || eqb t 4) || eqb t bilateral
-
+-- a standing sale of the day in the day-ahead balance, no export (Article 7)
 unfoldable pub isSaleOn : ℕ → Record → Bool
 isSaleOn d r =
     every (isStanding r ∷ eqb (key r .day) d ∷ isSaleType (key r .type) ∷ not (isExport (key r)) ∷ [])

@@ -6,6 +6,7 @@ ghost use Rattle.rules.specs.Entry.{recordIn};
 ghost use Rattle.rules.specs.Words.{isBook, entries};
 ghost use Rattle.detection.specs.Tables.{ofPass};
 ghost use Rattle.control.specs.Passes.{nobody, isSought};
+use detection::sums;
 use rules::Entry;
 use rules::layout::BILATERAL;
 use rules::layout::CANCELLED;
@@ -20,11 +21,10 @@ fn is_sought(e: Entry, day: u32, cancelled: bool) -> bool
     if cancelled {
         return (e.status == CANCELLED) & (e.key.day == day);
     }
-    let sale = e.key.entry_type;
     (e.status == STANDING)
         & (e.key.day == day)
-        & ((sale == 1) | (sale == 3) | (sale == 4) | (sale == BILATERAL))
-        & !((sale == BILATERAL) & (e.key.counterparty == 0))
+        & sums::is_sale(e.key.entry_type)
+        & !((e.key.entry_type == BILATERAL) & (e.key.counterparty == 0))
 }
 
 // Whether the book has such an entry: false only where it has none.

@@ -7,11 +7,12 @@ ghost use Rattle.numbers.specs.Sums.{count};
 ghost use Rattle.rules.specs.Entry.{keyOf, markType, lastParty, lastDay, recordIn};
 ghost use Rattle.rules.specs.Words.{isBook, entries, countOf, roomIn};
 ghost use Rattle.rules.specs.Stores.{posted};
-ghost use Rattle.rules.specs.Control.{isToCancel, detectedParties};
+ghost use Rattle.rules.specs.Control.{isToCancel};
 ghost use Rattle.detection.specs.Tables.{flagged, ofPass};
 ghost use Rattle.control.specs.Passes.{cancelledWords, passOf};
 use crate::nobody;
-use detection::sums::Flags;
+use detection::parties;
+use detection::parties::Flags;
 use rules::Entry;
 use rules::Key;
 use rules::bounds::NUMBERS;
@@ -39,7 +40,8 @@ fn is_to_cancel(e: Entry, day: u32, flags: &Flags) -> bool
         & flags[e.key.party as usize]
 }
 
-// The sales of flagged parties become cancelled, and are counted.
+// The sales of flagged parties become cancelled, and are counted. The test has a use beside the branch, so that the compiler
+// makes one branch of it and not one of each part: those on type and day are mispredicted.
 fn cancel(book: &mut [u32], day: u32, flags: &Flags) -> u32
     requires { ⌜ isBook (now book) ≡ true ⌝ }
     ensures cancelled { λ r. ⌜ r ≡ count (isToCancel (flagged (now (flags .entry))) day) (entries (now (book .entry))) ⌝ }
@@ -50,25 +52,12 @@ fn cancel(book: &mut [u32], day: u32, flags: &Flags) -> u32
     let mut i = 0;
     while i < count {
         let e = words::read_at(book, HEAD_WORDS + ENTRY_WORDS * i);
-        if is_to_cancel(e, day, flags) {
+        let cancelled = is_to_cancel(e, day, flags);
+        if cancelled {
             words::set_status(book, i, CANCELLED);
-            n += 1;
         }
+        n += parties::one_if(cancelled);
         i += 1;
-    }
-    n
-}
-
-fn count_flags(flags: &Flags) -> u32
-    ensures { λ r. ⌜ r ≡ detectedParties (flagged (now (flags .entry))) ⌝ }
-{
-    let mut n = 0;
-    let mut p = 0;
-    while p < NUMBERS {
-        if flags[p] {
-            n += 1;
-        }
-        p += 1;
     }
     n
 }
@@ -82,7 +71,7 @@ fn pass(book: &mut [u32], day: u32, second: bool) -> Passed
 {
     let mut flags = [false; NUMBERS];
     detection::flag_parties(book, day, second, &mut flags);
-    let parties = count_flags(&flags);
+    let parties = parties::count(&flags);
     let entries = cancel(book, day, &flags);
     Passed { parties, entries }
 }

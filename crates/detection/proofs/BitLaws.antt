@@ -15,7 +15,7 @@ use borrow.Author.Tests.{eqb-true, eqb-false, eq-eqb, ne-eqb, leb-true, leb-fals
 use Rattle.numbers.proofs.TestLaws.{bool-cases}
 use Rattle.numbers.proofs.ListLaws.{getD-blank}
 use Rattle.cells.specs.Cells.{blank}
-use Rattle.detection.specs.Tables.{tableCells, mostBits, bitAt, withBit}
+use Rattle.detection.specs.Tables.{bitAt, withBit}
 
 -- whether bit n of a number is set
 abbrev odd : ℕ → ℕ → Bool
@@ -64,9 +64,9 @@ pub length-bit : (words : List ℕ) (k : ℕ) → length (withBit words k) ≡ l
 unfolding withBit
 length-bit words k = length-set words (k / 64) (bitOr (getD words (k / 64) 0) (2 ^ (k % 64)))
 
-pub bit-after : (words : List ℕ) (k j : ℕ) → length words ≡ tableCells → k < mostBits → bitAt (withBit words k) j ≡ eqb k j || bitAt words j
+pub bit-after : (n : ℕ) (words : List ℕ) (k j : ℕ) → length words ≡ n → k < 64 * n → bitAt (withBit words k) j ≡ eqb k j || bitAt words j
 unfolding withBit bitAt
-bit-after words k j long h =
+bit-after n words k j long h =
     elim (bool-cases (eqb (j / 64) (k / 64))) [
       | inl e ↦
           let q : j / 64 ≡ k / 64 = eqb-true (j / 64) (k / 64) e in

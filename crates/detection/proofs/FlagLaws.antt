@@ -1,20 +1,24 @@
 -- Flags of parties, set one after the other. Assumes nothing.
-use mathlib.Core.Path.{_≡_, sym, ap, _∙_, fun-ext}
+use mathlib.Core.Path.{_≡_, refl, sym, ap, _∙_, fun-ext}
 use mathlib.Core.Logic.{inl, inr}
 use mathlib.Core.Bool.{Bool, true, false, cond, _&&_, _||_, and-false}
 use mathlib.Core.List.{List, [], _∷_}
-use Prim.Native.Nat.{ℕ, zero, suc, _+_, _≤_, _<_}
+use Prim.Native.Nat.{ℕ, zero, suc, _+_, _*_, _≤_, _<_, max}
 use native.Mathlib.Omega.{arith}
 use lib.Dec.{eqb, ltb, leb}
+use lib.IntN.{subℕ}
 use lib.ListN.{length, getD, set, length-set, length-replicate}
 use lib.Seq.{getD-set-same, getD-set-other}
 use borrow.Author.Tests.{eqb-true, eqb-false, ltb-true, ltb-false, lt-ltb, le-ltb, le-leb, lt-leb}
+use Rattle.numbers.specs.Sums.{sum, countBelow}
+use Rattle.numbers.specs.Signed.{isPositive}
+use Rattle.numbers.proofs.SignedLaws.{sub-below}
 use Rattle.numbers.proofs.TestLaws.{bool-cases}
 use Rattle.numbers.proofs.ListLaws.{getD-blank}
 use Rattle.rules.specs.Entry.{partyOk}
 use Rattle.rules.specs.Control.{Parties}
-use Rattle.rules.specs.Balance.{dayAhead, balanceOf, isDetected}
-use Rattle.detection.specs.Tables.{flagged, noFlags, withFlag, tallyAt, boughtCell, detectedAmong}
+use Rattle.rules.specs.Balance.{isDetected}
+use Rattle.detection.specs.Tables.{flagged, noFlags, withFlag, coverPlace, cellOf, aheadAt, detectedAmong}
 
 -- the flags of the parties below n are those of a test, and no other is set
 pub record Below (n : ℕ) (f : Parties) (flags : List Bool) : Type 0 where
@@ -90,6 +94,31 @@ module _ (f : Parties) where
 pub no-party : (q : ℕ) → 1000 ≤ q → partyOk q ≡ false
 no-party q h = rw (lt-leb q 999 h) (and-false (leb 1 q))
 
+-- where none is counted, none is set
+pub unset : (b : Bool) → _≡_ {A = ℕ} (cond b 1 0) 0 → b ≡ false
+unset true z = absurd (omega arith)
+unset false z = refl
+
+pub count-none : (n : ℕ) (f : Parties) → countBelow n f ≡ 0 → (p : ℕ) → p < n → f p ≡ false
+unfolding countBelow sum
+count-none zero f e p h = absurd (omega arith)
+count-none (suc n) f e p h =
+    elim (bool-cases (eqb p n)) [
+      | inl q ↦ let k = eqb-true p n q in rw k (unset (f n) (omega arith))
+      | inr q ↦ let k = eqb-false p n q in count-none n f (omega arith) p (omega (arith, k))
+    ]
+
+-- a balance without sales is not above zero
+pub not-above : (n : ℕ) → isPositive (subℕ 0 n) ≡ false
+not-above zero = refl
+not-above (suc n) = rw (sub-below 0 (suc n) (omega arith))
+
+pub no-sales : (R TM : ℕ) (cells : List ℕ) (p : ℕ) → getD cells (cellOf p 0) 0 ≡ 0 → false ≡ isDetected (aheadAt R TM cells p)
+unfolding aheadAt isDetected
+no-sales R TM cells p e =
+    let least : ℕ = max (100 * TM) ((getD cells (cellOf p coverPlace) 0 + max (getD cells (cellOf p 2) 0) (getD cells (cellOf p 3) 0)) * R) in
+    sym (ap (λ s. isPositive (subℕ (100 * s) least)) e ∙ not-above least)
+
 -- the detected ones among some parties
 module _ (cells : List ℕ) (R TM : ℕ) (among : List Bool) where
   abbrev Detected : Parties
@@ -107,7 +136,6 @@ module _ (cells : List ℕ) (R TM : ℕ) (among : List Bool) where
   unfolding detectedAmong
   detected-not-asked p e = rw e
 
-  pub detected-asked : (p : ℕ) (v : Bool) → getD among p false ≡ true → 1 ≤ p → p ≤ 999 →
-      v ≡ isDetected (balanceOf dayAhead R TM (tallyAt cells p) (getD cells (boughtCell p) 0)) → v ≡ Detected p
+  pub detected-asked : (p : ℕ) (v : Bool) → getD among p false ≡ true → 1 ≤ p → p ≤ 999 → v ≡ isDetected (aheadAt R TM cells p) → v ≡ Detected p
   unfolding detectedAmong
   detected-asked p v e low high q = q ∙ sym (rw (e, le-leb 1 p low, le-leb p 999 high))

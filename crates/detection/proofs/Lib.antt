@@ -3,3 +3,4 @@ pub mod FlagLaws
 pub mod DetectLaws
 pub mod BitLaws
 pub mod PairLaws
+pub mod SecondLaws

@@ -1,26 +1,31 @@
 -- The bits of pairs and the flags of buyers are those of the definition of a repeated pair. Assumes nothing.
 use mathlib.Core.Path.{_≡_, refl, sym, ap, ap₂, _∙_, fun-ext}
 use mathlib.Core.Logic.{inl, inr}
-use mathlib.Core.Bool.{Bool, true, false, not, _&&_, _||_, false≢true}
+use mathlib.Core.Bool.{Bool, true, false, not, cond, _&&_, _||_, and-false, false≢true}
 use mathlib.Core.List.{List, [], _∷_}
-use Prim.Native.Nat.{ℕ, suc, _+_, _≤_, _<_}
+use Prim.Native.Nat.{ℕ, suc, _+_, _*_, _%_, _≤_, _<_}
 use native.Mathlib.Numerals.{add-one}
 use native.Mathlib.Omega.{arith}
 use lib.Dec.{eqb, leb, ltb}
-use lib.ListN.{length, length-replicate}
+use lib.ListN.{length, drop, length-replicate}
 use borrow.Author.Tests.{eqb-true, eq-eqb, ne-eqb, leb-true, ltb-true, le-leb, lt-ltb, not-true, not-false}
+use Rattle.numbers.specs.Sums.{total, count}
 use Rattle.numbers.specs.Tests.{every, all, any}
-use Rattle.numbers.proofs.TestLaws.{bool-cases, below-or-above, and-split, and-join, or-cases, every-holds}
+use Rattle.numbers.proofs.SumLaws.{cond-below, count-le-length}
+use Rattle.numbers.proofs.TestLaws.{bool-cases, below-or-above, and-split, and-join, or-cases, or-left, or-right, or-false-split, every-holds, holds-every}
 use Rattle.calendar.specs.Calendar.{months, monthOf, monthStart}
 use Rattle.calendar.proofs.MonthLaws.{start-mono, start-end, InMonth, month-unique, month-past, month-holds}
-use Rattle.rules.specs.Entry.{Record, key, legal, fault, statusOk, markOk, isCancelled, isStanding, isMark, isBilateral, dayOk, lastDay}
+use Rattle.rules.specs.Entry.{Record, key, legal, fault, statusOk, markOk, isCancelled, isStanding, isMark, isBilateral, dayOk, lastDay, recordIn, entryOf}
+use Rattle.rules.specs.declared.Entry.{Entry}
+use Rattle.rules.specs.Words.{isBook, entries, countOf}
 use Rattle.rules.specs.Control.{isEarlierOrLater, isRepeatedBuyer}
-use Rattle.rules.proofs.WordLaws.{no-fault, legal-bounds}
+use Rattle.rules.proofs.WordLaws.{no-fault, legal-bounds, book-facts, length-read}
 use Rattle.cells.specs.Cells.{over, blank}
 use Rattle.cells.proofs.CellLaws.{same-test}
-use Rattle.detection.specs.Tables.{flagged, noFlags, IsPeriod, isOther, Paired, pairOf, mostBits, bitAt, withBit, withFlag, tableCells, marked, pairMarked, pairsOf, isRepeated, buyerMarked, buyersOf}
+use Rattle.cells.proofs.ScanLaws.{Scanned, readTo, readAt, total-next}
+use Rattle.detection.specs.Tables.{flagged, noFlags, IsPeriod, isOther, Paired, pairOf, bitOf, bitWords, bitAt, withBit, withFlag, marked, pairMarked, pairsOf, isHit, buyerMarked, buyersOf, sharesBit, likelyBuyer, likelyAmong}
 use Rattle.detection.specs.declared.pairs.Period.{Period}
-use Rattle.detection.proofs.FlagLaws.{no-flag, length-no-flags, length-flag, flag-after}
+use Rattle.detection.proofs.FlagLaws.{unset, no-flag, length-no-flags, length-flag, flag-after}
 use Rattle.detection.proofs.BitLaws.{length-bit, bit-after, no-bit}
 
 -- a legal cancelled entry has a seller and a buyer
@@ -104,6 +109,11 @@ module _ {A : Type 0} (mark : List A → ℕ → List A) (test : Record → Bool
     unfolding marked
     length-marked r table = elim (bool-cases (test r)) [ inl e ↦ rw e (long table (place r)) | inr e ↦ rw e ]
 
+    length-over : (rs : List Record) (table : List A) → length (over (marked mark test place) rs table) ≡ length table
+    unfolding over
+    length-over [] table = refl
+    length-over (r ∷ rs) table = length-over rs (marked mark test place r table) ∙ length-marked r table
+
     marked-one : (r : Record) (table : List A) (j : ℕ) → legal r ≡ true → length table ≡ m →
         isMarked (marked mark test place r table) j ≡ (test r && eqb (place r) j) || isMarked table j
     unfolding marked
@@ -126,6 +136,32 @@ module _ {A : Type 0} (mark : List A → ℕ → List A) (test : Record → Bool
         or-turn false true c = refl
         or-turn false false c = refl
 
+pub any-none : (f g : Record → Bool) → ((r : Record) → g r ≡ false → f r ≡ false) → (rs : List Record) → any g rs ≡ false → any f rs ≡ false
+unfolding any
+any-none f g h [] e = refl
+any-none f g h (r ∷ rs) e = let s = or-false-split (g r) (any g rs) e in rw (h r (s .0)) (any-none f g h rs (s .1))
+
+any-never : (f : Record → Bool) → ((r : Record) → f r ≡ false) → (rs : List Record) → any f rs ≡ false
+unfolding any
+any-never f h [] = refl
+any-never f h (r ∷ rs) = rw (h r) (any-never f h rs)
+
+none-counted : (f : Record → Bool) (rs : List Record) → count f rs ≡ 0 → any f rs ≡ false
+unfolding any count total
+none-counted f [] e = refl
+none-counted f (r ∷ rs) e = rw (unset (f r) (omega arith)) (none-counted f rs (omega arith))
+
+any-and : (b : Bool) (f : Record → Bool) (rs : List Record) → any (λ r. b && f r) rs ≡ b && any f rs
+unfolding any
+any-and b f [] = sym (and-false b)
+any-and true f (r ∷ rs) = ap (λ x. f r || x) (any-and true f rs)
+any-and false f (r ∷ rs) = any-and false f rs
+
+any-more : (f g : Record → Bool) → ((r : Record) → f r ≡ true → g r ≡ true) → (rs : List Record) → any f rs ≡ true → any g rs ≡ true
+unfolding any
+any-more f g h [] e = e
+any-more f g h (r ∷ rs) e = elim (or-cases (f r) (any f rs) e) [ inl q ↦ or-left _ _ (h r q) | inr q ↦ or-right (g r) _ (any-more f g h rs q) ]
+
 any-same : (ok f g : Record → Bool) → ((r : Record) → ok r ≡ true → f r ≡ g r) → (rs : List Record) → all ok rs ≡ true → any f rs ≡ any g rs
 unfolding any all
 any-same ok f g h [] e = refl
@@ -135,12 +171,13 @@ or-none : (a b : Bool) → b ≡ false → a || b ≡ a
 or-none true b e = refl
 or-none false b e = e
 
-length-no-pairs : length (blank tableCells) ≡ tableCells
+length-words : (few : Bool) → length (blank (bitWords few)) ≡ bitWords few
 unfolding blank
-length-no-pairs = length-replicate {A = ℕ} tableCells 0
+length-words few = length-replicate {A = ℕ} (bitWords few) 0
 
-pub pair-in : (r : Record) {k : ℕ} → Paired r → k ≡ pairOf r → k < mostBits
-pair-in r p q = omega arith
+pub pair-in : (few : Bool) (r : Record) {k : ℕ} → Paired r → k ≡ bitOf few r → k < 64 * bitWords few
+pair-in true r p q = omega arith
+pair-in false r p q = omega arith
 
 -- a bit of its own for each pair
 same-pair : (r s : Record) → Paired r → Paired s → eqb (pairOf s) (pairOf r) ≡ eqb (key s .party) (key r .party) && eqb (key s .counterparty) (key r .counterparty)
@@ -158,95 +195,198 @@ same-pair r s p q =
     ]
 
 -- one entry, as the code looks at it
-module _ (d : ℕ) (r : Record) where
-  pub pair-marked : (pairs : List ℕ) {k : ℕ} → k ≡ pairOf r → isOther d r ≡ true → withBit pairs k ≡ pairMarked d r pairs
+module _ (few : Bool) (d : ℕ) (r : Record) where
+  pub pair-marked : (pairs : List ℕ) {k : ℕ} {then : List ℕ} → isOther d r ≡ true → k ≡ bitOf few r → then ≡ withBit pairs k → then ≡ pairMarked few d r pairs
   unfolding pairMarked
-  pair-marked pairs q e = rw q (marked-yes withBit (isOther d) pairOf r pairs e)
+  pair-marked pairs e q t = t ∙ rw q (marked-yes withBit (isOther d) (bitOf few) r pairs e)
 
-  pub pair-kept : (pairs : List ℕ) → isOther d r ≡ false → pairs ≡ pairMarked d r pairs
+  pub pair-kept : (pairs : List ℕ) → isOther d r ≡ false → pairs ≡ pairMarked few d r pairs
   unfolding pairMarked
-  pair-kept pairs e = marked-no withBit (isOther d) pairOf r pairs e
+  pair-kept pairs e = marked-no withBit (isOther d) (bitOf few) r pairs e
+
+  pub pair-long : (pairs : List ℕ) → length (pairMarked few d r pairs) ≡ length pairs
+  unfolding pairMarked marked
+  pair-long pairs = elim (bool-cases (isOther d r)) [ inl e ↦ rw e (length-bit pairs (bitOf few r)) | inr e ↦ rw e ]
 
   pub of-day-cancelled : not (isCancelled r && eqb (key r .day) d) ≡ false → isCancelled r ≡ true
   of-day-cancelled h = and-split (isCancelled r) (eqb (key r .day) d) (not-false _ h) .0
 
-  module _ (pairs : List ℕ) (flags : List Bool) where
-    pub buyer-not : not (isCancelled r && eqb (key r .day) d) ≡ true → flags ≡ buyerMarked d pairs r flags
-    unfolding buyerMarked isRepeated
-    buyer-not h = marked-no withFlag (isRepeated d pairs) (λ x. key x .counterparty) r flags (rw (not-true (isCancelled r && eqb (key r .day) d) h))
+  module _ (among : List Bool) (pairs : List ℕ) (flags : List Bool) where
+    abbrev Marked : List Bool
+    Marked = buyerMarked few d among pairs r flags
 
-    pub buyer-marked : not (isCancelled r && eqb (key r .day) d) ≡ false → {k : ℕ} → k ≡ pairOf r → bitAt pairs k ≡ true → withFlag flags (key r .counterparty) ≡ buyerMarked d pairs r flags
-    unfolding buyerMarked isRepeated
-    buyer-marked h q e = marked-yes withFlag (isRepeated d pairs) (λ x. key x .counterparty) r flags (rw (not-false (isCancelled r && eqb (key r .day) d) h, ← q) e)
+    pub buyer-not : not (isCancelled r && eqb (key r .day) d) ≡ true → flags ≡ Marked
+    unfolding buyerMarked isHit
+    buyer-not h = marked-no withFlag (isHit few d among pairs) (λ x. key x .counterparty) r flags (rw (not-true (isCancelled r && eqb (key r .day) d) h))
 
-    pub buyer-kept : not (isCancelled r && eqb (key r .day) d) ≡ false → {k : ℕ} → k ≡ pairOf r → bitAt pairs k ≡ false → flags ≡ buyerMarked d pairs r flags
-    unfolding buyerMarked isRepeated
-    buyer-kept h q e = marked-no withFlag (isRepeated d pairs) (λ x. key x .counterparty) r flags (rw (not-false (isCancelled r && eqb (key r .day) d) h, ← q) e)
+    -- past that test: the buyer's flag among some, and the bit
+    module _ (h : not (isCancelled r && eqb (key r .day) d) ≡ false) {k : ℕ} (n : k ≡ bitOf few r) {bit : Bool} (q : bit ≡ bitAt pairs k) where
+      hit : isHit few d among pairs r ≡ flagged among (key r .counterparty) && bit
+      unfolding isHit
+      hit = rw (not-false (isCancelled r && eqb (key r .day) d) h, q, n)
 
-module _ (d : ℕ) (rs : List Record) (ok : all legal rs ≡ true) where
-  -- the pair of a cancelled entry is marked where it has a cancelled entry of another day of the month
-  pub pair-bit : (r : Record) → Paired r → bitAt (pairsOf d rs) (pairOf r) ≡ any (isEarlierOrLater d r) rs
-  unfolding pairsOf pairMarked isOther
-  pair-bit r p =
-      over-marked withBit (isOther d) pairOf bitAt tableCells mostBits length-bit bit-after (λ s l e. pair-in s (paired s l (other-cancelled d s e)) refl) rs (blank tableCells) (pairOf r) ok length-no-pairs
-      ∙ or-none _ _ (no-bit tableCells (pairOf r))
-      ∙ any-same legal (λ s. isOther d s && eqb (pairOf s) (pairOf r)) (isEarlierOrLater d r) same rs ok
-    where
-      order : (p b o m : Bool) → (o && m) && (p && b) ≡ ((p && b) && o) && m
-      order true true o m = and-true (o && m)
+      pub buyer-marked : {then : List Bool} → flagged among (key r .counterparty) && bit ≡ true → then ≡ withFlag flags (key r .counterparty) → then ≡ Marked
+      unfolding buyerMarked
+      buyer-marked e t = t ∙ marked-yes withFlag (isHit few d among pairs) (λ x. key x .counterparty) r flags (hit ∙ e)
+
+      pub buyer-kept : flagged among (key r .counterparty) && bit ≡ false → flags ≡ Marked
+      unfolding buyerMarked
+      buyer-kept e = marked-no withFlag (isHit few d among pairs) (λ x. key x .counterparty) r flags (hit ∙ e)
+
+-- the marks of entries one after the other
+module _ (few : Bool) (d : ℕ) where
+  other-in : (s : Record) → legal s ≡ true → isOther d s ≡ true → bitOf few s < 64 * bitWords few
+  other-in s l e = pair-in few s (paired s l (other-cancelled d s e)) refl
+
+  pub length-pairs : (rs : List Record) → length (over (pairMarked few d) rs (blank (bitWords few))) ≡ bitWords few
+  unfolding pairMarked
+  length-pairs rs =
+      length-over withBit (isOther d) (bitOf few) bitAt (bitWords few) (64 * bitWords few) length-bit (bit-after (bitWords few)) other-in rs (blank (bitWords few)) ∙ length-words few
+
+  pub pairs-scanned : {ws pairs : List ℕ} {n i : ℕ} → Scanned (pairMarked few d) (blank (bitWords few)) ws n i pairs → length pairs ≡ bitWords few
+  pairs-scanned {ws} {i = i} p = ap length (p .state) ∙ length-pairs (readTo ws i)
+
+  pub pairs-same : {ws blanks pairs : List ℕ} {n i : ℕ} → blanks ≡ blank (bitWords few) → Scanned (pairMarked few d) (blank (bitWords few)) ws n i pairs → length pairs ≡ length blanks
+  pairs-same e p = pairs-scanned p ∙ sym (ap length e ∙ length-words few)
+
+  pub pairs-long : (rs : List Record) {pairs : List ℕ} → pairs ≡ pairsOf few d rs → length pairs ≡ bitWords few
+  unfolding pairsOf
+  pairs-long rs e = ap length e ∙ length-pairs rs
+
+  module _ (rs : List Record) (ok : all legal rs ≡ true) where
+    pair-bit : (r : Record) → bitAt (pairsOf few d rs) (bitOf few r) ≡ any (sharesBit few d r) rs
+    unfolding pairsOf pairMarked
+    pair-bit r =
+        over-marked withBit (isOther d) (bitOf few) bitAt (bitWords few) (64 * bitWords few) length-bit (bit-after (bitWords few)) other-in rs (blank (bitWords few)) (bitOf few r) ok (length-words few)
+        ∙ or-none _ _ (no-bit (bitWords few) (bitOf few r))
+
+    -- a cancelled entry of the day and this buyer that shares its bit
+    abbrev ofBuyer : ℕ → Record → Bool
+    ofBuyer p r = every (isCancelled r ∷ eqb (key r .day) d ∷ eqb (key r .counterparty) p ∷ any (sharesBit few d r) rs ∷ [])
+
+    module _ (among : List Bool) where
+      hit-buyer : (r : Record) → legal r ≡ true → isHit few d among (pairsOf few d rs) r ≡ true → key r .counterparty < 1000
+      unfolding isHit
+      hit-buyer r l e =
+          let c = every-holds (isCancelled r ∷ eqb (key r .day) d ∷ flagged among (key r .counterparty) ∷ bitAt (pairsOf few d rs) (bitOf few r) ∷ []) e .0 in
+          let p = paired r l c in
+          omega arith
+
+      buyers-flagged : flagged (buyersOf few d among (pairsOf few d rs) rs) ≡ likelyAmong few d rs among
+      unfolding buyersOf buyerMarked likelyAmong likelyBuyer isHit
+      buyers-flagged = fun-ext at
         where
-          and-true : (x : Bool) → x && true ≡ x
-          and-true true = refl
-          and-true false = refl
-      order true false o m = and-none (o && m)
-        where
-          and-none : (x : Bool) → x && false ≡ false
-          and-none true = refl
-          and-none false = refl
-      order false b o m = and-none (o && m)
-        where
-          and-none : (x : Bool) → x && false ≡ false
-          and-none true = refl
-          and-none false = refl
+          order : (c o f g e : Bool) → (((c && o) && f) && g) && e ≡ f && (((c && o) && e) && g)
+          order true true true true true = refl
+          order true true true true false = refl
+          order true true true false true = refl
+          order true true true false false = refl
+          order true true false g e = refl
+          order true false true g e = refl
+          order true false false g e = refl
+          order false o true g e = refl
+          order false o false g e = refl
 
-      same : (s : Record) → legal s ≡ true → isOther d s && eqb (pairOf s) (pairOf r) ≡ isEarlierOrLater d r s
-      same s l =
-          elim (bool-cases (isCancelled s)) [
-            | inl e ↦
-                rw (same-pair r s p (paired s l e), e)
-                (order (eqb (key s .party) (key r .party)) (eqb (key s .counterparty) (key r .counterparty)) (not (eqb (key s .day) d)) (eqb (monthOf (key s .day)) (monthOf d)))
-            | inr e ↦ rw e
-          ]
+          same : (p : ℕ) (r : Record) → legal r ≡ true → isHit few d among (pairsOf few d rs) r && eqb (key r .counterparty) p ≡ flagged among p && ofBuyer p r
+          same p r l =
+              elim (bool-cases (eqb (key r .counterparty) p)) [
+                | inl e ↦
+                    let q : key r .counterparty ≡ p = eqb-true _ _ e in
+                    rw (pair-bit r) (order (isCancelled r) (eqb (key r .day) d) (flagged among (key r .counterparty)) (any (sharesBit few d r) rs) (eqb (key r .counterparty) p) ∙ ap (λ n. flagged among n && ofBuyer p r) q)
+                | inr e ↦ rw e (and-false (isHit few d among (pairsOf few d rs) r) ∙ sym (ap (λ x. flagged among p && (x && any (sharesBit few d r) rs)) (and-false (isCancelled r && eqb (key r .day) d)) ∙ and-false (flagged among p)))
+              ]
 
-  repeated-buyer : (r : Record) → legal r ≡ true → isRepeated d (pairsOf d rs) r ≡ true → key r .counterparty < 1000
-  unfolding isRepeated
-  repeated-buyer r l e =
-      let c = every-holds (isCancelled r ∷ eqb (key r .day) d ∷ bitAt (pairsOf d rs) (pairOf r) ∷ []) e .0 in
-      let p = paired r l c in
-      omega arith
+          at : (p : ℕ) → flagged (buyersOf few d among (pairsOf few d rs) rs) p ≡ likelyAmong few d rs among p
+          at p =
+              over-marked withFlag (isHit few d among (pairsOf few d rs)) (λ r. key r .counterparty) flagged 1000 1000 length-flag flag-after hit-buyer rs noFlags p ok length-no-flags
+              ∙ or-none _ _ (no-flag p)
+              ∙ any-same legal _ _ (same p) rs ok
+              ∙ any-and (flagged among p) (ofBuyer p) rs
 
-  pub buyers-flagged : flagged (buyersOf d (pairsOf d rs) rs) ≡ isRepeatedBuyer d rs
-  unfolding buyersOf buyerMarked isRepeatedBuyer isRepeated
-  buyers-flagged = fun-ext at
-    where
-      order : (c o g e : Bool) → ((c && o) && g) && e ≡ ((c && o) && e) && g
-      order true true true true = refl
-      order true true true false = refl
-      order true true false true = refl
-      order true true false false = refl
-      order true false g e = refl
-      order false o g e = refl
+-- the code's bits and flags of a book
+pub buyers-are : (few : Bool) (d : ℕ) (ws : List ℕ) (among : List Bool) (buyers : List Bool) {pairs : List ℕ} → isBook ws ≡ true →
+    pairs ≡ pairsOf few d (entries ws) → buyers ≡ buyersOf few d among pairs (entries ws) → flagged buyers ≡ likelyAmong few d (entries ws) among
+buyers-are few d ws among buyers b p q =
+    ap flagged (q ∙ ap (λ x. buyersOf few d among x (entries ws)) p) ∙ buyers-flagged few d (entries ws) (book-facts ws b .legals) among
 
-      same : (p : ℕ) (r : Record) → legal r ≡ true →
-          isRepeated d (pairsOf d rs) r && eqb (key r .counterparty) p ≡ every (isCancelled r ∷ eqb (key r .day) d ∷ eqb (key r .counterparty) p ∷ any (isEarlierOrLater d r) rs ∷ [])
-      same p r l =
-          elim (bool-cases (isCancelled r)) [
-            | inl e ↦ rw (pair-bit r (paired r l e)) (order (isCancelled r) (eqb (key r .day) d) (any (isEarlierOrLater d r) rs) (eqb (key r .counterparty) p))
-            | inr e ↦ rw e
-          ]
+-- the entries of other days, counted one after the other
+pub one-most : (b : Bool) {n : ℕ} → n ≡ cond b 1 0 → n ≤ 1
+one-most b e = rw e (cond-below b 1)
 
-      at : (p : ℕ) → flagged (buyersOf d (pairsOf d rs) rs) p ≡ isRepeatedBuyer d rs p
-      at p =
-          over-marked withFlag (isRepeated d (pairsOf d rs)) (λ r. key r .counterparty) flagged 1000 1000 length-flag flag-after repeated-buyer rs noFlags p ok length-no-flags
-          ∙ or-none _ _ (no-flag p)
-          ∙ any-same legal _ _ (same p) rs ok
+module _ (d : ℕ) (ws : List ℕ) (i : ℕ) {n : ℕ} (c : n ≡ count (isOther d) (readTo ws i)) where
+  pub others-few : n ≤ i
+  others-few = omega (arith, count-le-length (isOther d) (readTo ws i), length-read i (drop 3 ws))
+
+  pub others-next : {e : Entry} {k : ℕ} → e ≡ entryOf (readAt ws i) → k ≡ cond (isOther d (recordIn e)) 1 0 → n + k ≡ count (isOther d) (readTo ws (i + 1))
+  unfolding count
+  others-next q k = ap₂ _+_ c (k ∙ ap (λ x. cond (isOther d (recordIn x)) 1 0) q) ∙ sym (total-next (λ r. cond (isOther d r) 1 0) ws i)
+
+  pub others-all : {last : ℕ} → last ≡ countOf ws → i ≤ last → last ≤ i → n ≡ count (isOther d) (entries ws)
+  unfolding entries
+  others-all l h k = let e : i ≡ countOf ws = omega arith in c ∙ ap (λ j. count (isOther d) (readTo ws j)) e
+
+-- where there is none, no bit is shared
+pub no-others : (few : Bool) (d : ℕ) (ws : List ℕ) (among flags : List Bool) {n : ℕ} → n ≡ count (isOther d) (entries ws) → n ≡ 0 → flags ≡ noFlags → flagged flags ≡ likelyAmong few d (entries ws) among
+unfolding likelyAmong likelyBuyer
+no-others few d ws among flags c z f =
+    fun-ext
+    (λ p.
+    ap (λ x. flagged x p) f ∙ no-flag p
+    ∙ sym (ap (λ b. flagged among p && b) (none p (entries ws)) ∙ and-false (flagged among p)))
+  where
+    alone : (r : Record) → any (sharesBit few d r) (entries ws) ≡ false
+    alone r = any-none _ (isOther d) (λ s e. rw e) (entries ws) (none-counted (isOther d) (entries ws) (sym c ∙ z))
+
+    none : (p : ℕ) (rs : List Record) → any (λ r. every (isCancelled r ∷ eqb (key r .day) d ∷ eqb (key r .counterparty) p ∷ any (sharesBit few d r) (entries ws) ∷ [])) rs ≡ false
+    none p = any-never _ (λ r. rw (alone r) (and-false ((isCancelled r && eqb (key r .day) d) && eqb (key r .counterparty) p)))
+
+-- a repeated pair shares its bit with itself, whatever the number of bits
+shares : (few : Bool) (d : ℕ) (r s : Record) → isEarlierOrLater d r s ≡ true → sharesBit few d r s ≡ true
+unfolding isOther
+shares few d r s e =
+    let h = every-holds (isCancelled s ∷ eqb (key s .party) (key r .party) ∷ eqb (key s .counterparty) (key r .counterparty) ∷ not (eqb (key s .day) d) ∷ eqb (monthOf (key s .day)) (monthOf d) ∷ []) e in
+    let x = eqb-true (key s .party) (key r .party) (h .1 .0) in
+    let y = eqb-true (key s .counterparty) (key r .counterparty) (h .1 .1 .0) in
+    let o = holds-every (isCancelled s ∷ not (eqb (key s .day) d) ∷ eqb (monthOf (key s .day)) (monthOf d) ∷ []) (h .0, h .1 .1 .1) in
+    and-join _ _ o (eq-eqb _ _ (ap₂ (λ p c. cond few ((1024 * p + c) % 4096) (1024 * p + c)) x y))
+
+pub repeated-likely : (few : Bool) (d : ℕ) (rs : List Record) (p : ℕ) → isRepeatedBuyer d rs p ≡ true → likelyBuyer few d rs p ≡ true
+unfolding isRepeatedBuyer likelyBuyer
+repeated-likely few d rs p =
+    any-more _ _
+    (λ r e.
+    let h = every-holds (isCancelled r ∷ eqb (key r .day) d ∷ eqb (key r .counterparty) p ∷ any (isEarlierOrLater d r) rs ∷ []) e in
+    holds-every (isCancelled r ∷ eqb (key r .day) d ∷ eqb (key r .counterparty) p ∷ any (sharesBit few d r) rs ∷ []) (h .0, (h .1 .0, (h .1 .1 .0, (any-more _ _ (shares few d r) rs (h .1 .1 .1 .0), tt)))))
+    rs
+
+-- with a bit for each pair, no other does
+pub likely-repeated : (d : ℕ) (rs : List Record) → all legal rs ≡ true → likelyBuyer false d rs ≡ isRepeatedBuyer d rs
+unfolding isRepeatedBuyer likelyBuyer isOther
+likely-repeated d rs ok = fun-ext (λ p. any-same legal _ _ (same p) rs ok)
+  where
+    order : (p b o m : Bool) → (o && m) && (p && b) ≡ ((p && b) && o) && m
+    order true true o m = and-yes (o && m)
+      where
+        and-yes : (x : Bool) → x && true ≡ x
+        and-yes true = refl
+        and-yes false = refl
+    order true false o m = and-false (o && m)
+    order false b o m = and-false (o && m)
+
+    pair : (r : Record) → Paired r → (s : Record) → legal s ≡ true → sharesBit false d r s ≡ isEarlierOrLater d r s
+    pair r p s l =
+        elim (bool-cases (isCancelled s)) [
+          | inl e ↦
+              rw (same-pair r s p (paired s l e), e)
+              (order (eqb (key s .party) (key r .party)) (eqb (key s .counterparty) (key r .counterparty)) (not (eqb (key s .day) d)) (eqb (monthOf (key s .day)) (monthOf d)))
+          | inr e ↦ rw e
+        ]
+
+    same : (p : ℕ) (r : Record) → legal r ≡ true →
+        every (isCancelled r ∷ eqb (key r .day) d ∷ eqb (key r .counterparty) p ∷ any (sharesBit false d r) rs ∷ [])
+        ≡ every (isCancelled r ∷ eqb (key r .day) d ∷ eqb (key r .counterparty) p ∷ any (isEarlierOrLater d r) rs ∷ [])
+    same p r l =
+        elim (bool-cases (isCancelled r)) [
+          | inl e ↦ ap (λ x. ((isCancelled r && eqb (key r .day) d) && eqb (key r .counterparty) p) && x) (any-same legal _ _ (pair r (paired r l e)) rs ok)
+          | inr e ↦ rw e
+        ]

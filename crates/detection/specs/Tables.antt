@@ -1,22 +1,21 @@
 -- What the scans of a control make of the entries: a table of sums, flags of parties and bits of pairs.
 -- Only the contracts of internal functions cite these; the laws tie them to rules/specs/Control.
 use mathlib.Core.Path.{_≡_}
-use mathlib.Core.Bool.{Bool, true, false, not, cond, _&&_}
+use mathlib.Core.Bool.{Bool, true, false, not, cond, _&&_, _||_}
 use mathlib.Core.List.{List, [], _∷_}
-use Prim.Native.Nat.{ℕ, _+_, _*_, _/_, _%_, _^_, _≤_}
+use Prim.Native.Nat.{ℕ, _+_, _*_, _/_, _%_, _^_, _≤_, max}
 use lib.Bits.{bitOr}
 use lib.Dec.{eqb, leb, ltb}
-use lib.ListN.{length, getD, set, take, drop, replicate}
-use Rattle.numbers.specs.Tests.{every}
+use lib.IntN.{ℤ, subℕ}
+use lib.ListN.{length, getD, set, replicate}
+use Rattle.numbers.specs.Tests.{every, any}
 use Rattle.calendar.specs.Calendar.{monthOf}
-use Rattle.rules.specs.Entry.{Record, key, isCancelled, bilateral, partyOk, lastParty, partyPlaces, lastDay}
-use Rattle.rules.specs.Words.{entries, coefficientOf, toleranceOf}
-use Rattle.rules.specs.Balance.{dayAhead, balanceOf, isDetected, sumCount, sumPlace}
+use Rattle.rules.specs.Entry.{Label, Record, key, isCancelled, isExport, bilateral, updatedProgram, standing, partyOk, lastParty, partyPlaces, lastDay}
+use Rattle.rules.specs.Words.{entries, coefficientOf, toleranceOf, mostCoefficient, mostTolerance}
+use Rattle.rules.specs.Balance.{isDetected}
 use Rattle.rules.specs.Control.{Parties, detectedIn, isRepeatedBuyer}
-use Rattle.cells.specs.Cells.{Cells, oneIf, over, blank, filled}
-use Rattle.tally.specs.Scan.{counts}
-use Rattle.tally.specs.Bounded.{Bounded}
-use Rattle.rules.specs.declared.Tally.{Tally}
+use Rattle.cells.specs.Cells.{Cells, oneIf, over, blank, filled, AtMost}
+use Rattle.tally.specs.Bounded.{mostSum}
 use Rattle.detection.specs.declared.pairs.Period.{Period}
 
 -- the parties whose flag is set
@@ -26,20 +25,46 @@ flagged flags p = getD flags p false
 unfoldable pub noFlags : List Bool
 noFlags = replicate partyPlaces false
 
--- cells of a party: its sums of the day, and B
+-- the largest number of a type
+abbrev pub lastType : ℕ
+lastType = updatedProgram
+
+-- the sales of the day-ahead balance, types 1, 3, 4 and 6, and its purchases and generation (01, 'The two balances')
+abbrev pub isSaleType : ℕ → Bool
+isSaleType t = ((eqb t 1 || eqb t 3) || eqb t 4) || eqb t bilateral
+
+abbrev pub isCoverType : ℕ → Bool
+isCoverType t = ((((eqb t 7 || eqb t 9) || eqb t 10) || eqb t 12) || eqb t 13) || eqb t 14
+
+-- the types that it reads: these, capacity tender and import notification
+unfoldable pub isReadType : ℕ → Bool
+isReadType t = ((isSaleType t || isCoverType t) || eqb t 15) || eqb t 16
+
+-- what it reads of a party's day, a cell each: S, C but for the next two, capacity tender, import notification
 abbrev pub partyCells : ℕ
-partyCells = sumCount + 1
+partyCells = 4
 
-abbrev pub sumCell : ℕ → ℕ → ℕ
-sumCell p t = partyCells * p + sumPlace t
+abbrev pub coverPlace : ℕ
+coverPlace = 1
 
-abbrev pub boughtCell : ℕ → ℕ
-boughtCell p = partyCells * p + sumCount
+unfoldable pub sideOf : ℕ → ℕ
+sideOf t = cond (isCoverType t) coverPlace (cond (eqb t 15) 2 (cond (eqb t 16) 3 0))
 
--- an entry that counts goes to its party's sum and, of a bilateral sale, to its counterparty's B
+abbrev pub cellOf : ℕ → ℕ → ℕ
+cellOf p side = partyCells * p + side
+
+-- an entry that such a balance of the day reads: standing, of the day, of one of these types, no export
+unfoldable pub isRead : ℕ → Label → Bool
+isRead d l = every (eqb (l .status) standing ∷ eqb (l .key .day) d ∷ isReadType (l .key .type) ∷ not (isExport (l .key)) ∷ [])
+
+-- what an entry adds to its party's cell: 0 where it is not read
+unfoldable pub ownAmount : ℕ → Record → ℕ
+ownAmount d r = cond (isRead d (r .label)) (r .amount) 0
+
+-- it goes to its party's cell and, of a bilateral sale, to its counterparty's cover
 abbrev pub dayCells : ℕ → Cells
 dayCells d l =
-    cond (counts d l) (sumCell (l .key .party) (l .key .type) ∷ oneIf (eqb (l .key .type) bilateral) (boughtCell (l .key .counterparty))) []
+    cond (isRead d l) (cellOf (l .key .party) (sideOf (l .key .type)) ∷ oneIf (eqb (l .key .type) bilateral) (cellOf (l .key .counterparty) coverPlace)) []
 
 -- for each number from 0 to 999
 abbrev pub tableCells : ℕ
@@ -48,14 +73,15 @@ tableCells = partyCells * (lastParty + 1)
 unfoldable pub tableOf : ℕ → List Record → List ℕ
 tableOf d rs = filled (dayCells d) tableCells rs
 
--- a party's cells as its tally
-abbrev pub tallyAt : List ℕ → ℕ → Tally
-tallyAt cells p = record { party = p; sums = take sumCount (drop (partyCells * p) cells) }
+-- the day-ahead balance by a party's cells
+unfoldable pub aheadAt : ℕ → ℕ → List ℕ → ℕ → ℤ
+aheadAt R TM cells p =
+    subℕ (100 * getD cells (cellOf p 0) 0)
+    (max (100 * TM) ((getD cells (cellOf p coverPlace) 0 + max (getD cells (cellOf p 2) 0) (getD cells (cellOf p 3) 0)) * R))
 
 -- the detected ones among some parties, by their cells
 unfoldable pub detectedAmong : List ℕ → ℕ → ℕ → List Bool → Parties
-detectedAmong cells R TM among p =
-    flagged among p && (partyOk p && isDetected (balanceOf dayAhead R TM (tallyAt cells p) (getD cells (boughtCell p) 0)))
+detectedAmong cells R TM among p = flagged among p && (partyOk p && isDetected (aheadAt R TM cells p))
 
 -- the same, by the entries of a book
 unfoldable pub checked : List ℕ → ℕ → List Bool → Parties
@@ -68,7 +94,9 @@ ofPass second ws d p = cond second (isRepeatedBuyer d (entries ws) p) true && de
 -- a table whose balances fit, and flags of which none is set
 pub record Flaggable (cells : List ℕ) (R TM : ℕ) (flags : List Bool) : Type 0 where
   pub long : length cells ≡ tableCells
-  pub bounded : (p : ℕ) → 1 ≤ p → p ≤ lastParty → Bounded (tallyAt cells p) (getD cells (boughtCell p) 0) R TM
+  pub within : AtMost mostSum cells
+  pub coefficient : R ≤ mostCoefficient
+  pub tolerance : TM ≤ mostTolerance
   pub none : flags ≡ noFlags
 
 -- the days of the month of a day are those from the first to the next
@@ -86,13 +114,16 @@ pub record Paired (r : Record) : Type 0 where
   pub buyer-above : 1 ≤ key r .counterparty
   pub buyer : key r .counterparty ≤ lastParty
 
--- the bit of a pair: 1,024 bits a seller, one a buyer
+-- the bit of a pair: 1,024 bits a seller, one a buyer; or, of few bits, one that other pairs have too
 abbrev pub pairOf : Record → ℕ
 pairOf r = 1024 * key r .party + key r .counterparty
 
--- all bits of pairs: they lie in the first 16,000 cells of the table, 64 to a cell
-abbrev pub mostBits : ℕ
-mostBits = 1024000
+abbrev pub bitOf : Bool → Record → ℕ
+bitOf few r = cond few (pairOf r % 4096) (pairOf r)
+
+-- the words that hold the bits, 64 to a word
+abbrev pub bitWords : Bool → ℕ
+bitWords few = cond few 64 16000
 
 unfoldable pub bitAt : List ℕ → ℕ → Bool
 bitAt words k = eqb (getD words (k / 64) 0 / 2 ^ (k % 64) % 2) 1
@@ -108,18 +139,31 @@ module _ {A : Type 0} where
   unfoldable pub marked : (List A → ℕ → List A) → (Record → Bool) → (Record → ℕ) → Record → List A → List A
   marked mark test place r table = cond (test r) (mark table (place r)) table
 
-unfoldable pub pairMarked : ℕ → Record → List ℕ → List ℕ
-pairMarked d = marked withBit (isOther d) pairOf
+unfoldable pub pairMarked : Bool → ℕ → Record → List ℕ → List ℕ
+pairMarked few d = marked withBit (isOther d) (bitOf few)
 
-unfoldable pub pairsOf : ℕ → List Record → List ℕ
-pairsOf d rs = over (pairMarked d) rs (blank tableCells)
+unfoldable pub pairsOf : Bool → ℕ → List Record → List ℕ
+pairsOf few d rs = over (pairMarked few d) rs (blank (bitWords few))
 
--- a cancelled entry of the day whose pair is marked
-unfoldable pub isRepeated : ℕ → List ℕ → Record → Bool
-isRepeated d pairs r = every (isCancelled r ∷ eqb (key r .day) d ∷ bitAt pairs (pairOf r) ∷ [])
+-- a cancelled entry of the day, of a buyer among some, whose bit is marked
+unfoldable pub isHit : Bool → ℕ → List Bool → List ℕ → Record → Bool
+isHit few d among pairs r =
+    every (isCancelled r ∷ eqb (key r .day) d ∷ flagged among (key r .counterparty) ∷ bitAt pairs (bitOf few r) ∷ [])
 
-unfoldable pub buyerMarked : ℕ → List ℕ → Record → List Bool → List Bool
-buyerMarked d pairs = marked withFlag (isRepeated d pairs) (λ r. key r .counterparty)
+unfoldable pub buyerMarked : Bool → ℕ → List Bool → List ℕ → Record → List Bool → List Bool
+buyerMarked few d among pairs = marked withFlag (isHit few d among pairs) (λ r. key r .counterparty)
 
-unfoldable pub buyersOf : ℕ → List ℕ → List Record → List Bool
-buyersOf d pairs rs = over (buyerMarked d pairs) rs noFlags
+unfoldable pub buyersOf : Bool → ℕ → List Bool → List ℕ → List Record → List Bool
+buyersOf few d among pairs rs = over (buyerMarked few d among pairs) rs noFlags
+
+-- a cancelled entry of another day of the month with the bit of this one
+abbrev pub sharesBit : Bool → ℕ → Record → Record → Bool
+sharesBit few d r s = isOther d s && eqb (bitOf few s) (bitOf few r)
+
+-- the buyers among some with such a bit; of all bits those of repeated pairs, of few bits those and perhaps others
+unfoldable pub likelyBuyer : Bool → ℕ → List Record → Parties
+likelyBuyer few d rs p =
+    any (λ r. every (isCancelled r ∷ eqb (key r .day) d ∷ eqb (key r .counterparty) p ∷ any (sharesBit few d r) rs ∷ [])) rs
+
+unfoldable pub likelyAmong : Bool → ℕ → List Record → List Bool → Parties
+likelyAmong few d rs among p = flagged among p && likelyBuyer few d rs p

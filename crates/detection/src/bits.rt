@@ -1,18 +1,18 @@
-// Internal: bits in a lent table, 64 to a word. A caller meets each `requires`.
+// Internal: bits in lent words, 64 to a word. A caller meets each `requires`.
 ghost use mathlib.Core.Path.{_≡_};
-ghost use Prim.Native.Nat.{_<_};
-ghost use Rattle.detection.specs.Tables.{mostBits, bitAt, withBit};
-use crate::sums::Table;
+ghost use Prim.Native.Nat.{_*_, _<_};
+ghost use lib.ListN.{length};
+ghost use Rattle.detection.specs.Tables.{bitAt, withBit};
 
-pub fn bit_at(bits: &Table, k: usize) -> bool
-    requires { ⌜ k < mostBits ⌝ }
+pub fn bit_at(bits: &[u64], k: usize) -> bool
+    requires { ⌜ k < 64 * length (now bits) ⌝ }
     ensures { λ r. ⌜ r ≡ bitAt (now (bits .entry)) k ⌝ }
 {
     (bits[k / 64] >> (k % 64)) % 2 == 1
 }
 
-pub fn set_bit(bits: &mut Table, k: usize)
-    requires { ⌜ k < mostBits ⌝ }
+pub fn set_bit(bits: &mut [u64], k: usize)
+    requires { ⌜ k < 64 * length (now bits) ⌝ }
     ensures { λ _. ⌜ now (bits .exit) ≡ withBit (now (bits .entry)) k ⌝ }
 {
     let at = k / 64;

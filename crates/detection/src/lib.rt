@@ -1,28 +1,56 @@
 // Internal: flags of parties by scans of a checked book, for the control of a day. A caller meets each `requires`.
 ghost use mathlib.Core.Path.{_≡_};
-ghost use mathlib.Core.Bool.{true};
+ghost use mathlib.Core.Bool.{true, false};
 ghost use Rattle.rules.specs.Words.{isBook};
 ghost use Rattle.detection.specs.Tables.{flagged, noFlags, ofPass};
+use parties::Flags;
 use rules::bounds::NUMBERS;
-use sums::CELLS;
-use sums::Flags;
 
 mod bits;
 mod pairs;
+pub mod parties;
 pub mod sums;
 
+// The first pass: every party that is detected.
+fn flag_first(book: &[u32], day: u32, flags: &mut Flags)
+    requires { ⌜ isBook (now book) ≡ true ⌝ }
+    requires { ⌜ now flags ≡ noFlags ⌝ }
+    ensures { λ _. ⌜ flagged (now (flags .exit)) ≡ ofPass false (now (book .entry)) day ⌝ }
+{
+    let everyone = [true; NUMBERS];
+    sums::detect(book, day, &everyone, flags);
+}
+
+// The second: the buyers of repeated pairs that are detected. The pairs are looked at by few bits first, and by all of them
+// only for buyers that are detected: most books have none, and all bits are 128,000 bytes to be cleared.
+fn flag_second(book: &[u32], day: u32, flags: &mut Flags)
+    requires { ⌜ isBook (now book) ≡ true ⌝ }
+    requires { ⌜ now flags ≡ noFlags ⌝ }
+    ensures { λ _. ⌜ flagged (now (flags .exit)) ≡ ofPass true (now (book .entry)) day ⌝ }
+{
+    let everyone = [true; NUMBERS];
+    let mut likely = [false; NUMBERS];
+    pairs::flag_likely(book, day, &everyone, &mut likely);
+    if parties::count(&likely) == 0 {
+        return;
+    }
+    let mut detected = [false; NUMBERS];
+    sums::detect(book, day, &likely, &mut detected);
+    if parties::count(&detected) == 0 {
+        return;
+    }
+    pairs::flag_repeated(book, day, &detected, flags);
+}
+
 // Flags the parties of a pass: those detected, in the second pass among the buyers of repeated pairs.
-// One table serves the bits of pairs and then the sums.
 pub fn flag_parties(book: &[u32], day: u32, second: bool, flags: &mut Flags)
     requires { ⌜ isBook (now book) ≡ true ⌝ }
     requires { ⌜ now flags ≡ noFlags ⌝ }
     ensures { λ _. ⌜ flagged (now (flags .exit)) ≡ ofPass second (now (book .entry)) day ⌝ }
 {
-    let mut table = [0u64; CELLS];
-    let mut among = [!second; NUMBERS];
     if second {
-        pairs::flag_buyers(book, day, &mut table, &mut among);
-        table = [0u64; CELLS];
+        flag_second(book, day, flags);
+    } else {
+        flag_first(book, day, flags);
     }
-    sums::detect(book, day, &mut table, &among, flags);
 }

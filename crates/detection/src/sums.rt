@@ -1,19 +1,18 @@
-// Internal: the sums of a day for every party, by one scan of a checked book, and the parties detected by them.
-// A caller meets each `requires`.
+// Internal: what the day-ahead balance reads of every party's day, by one scan of a checked book, and the parties detected
+// by it. A caller meets each `requires`.
 ghost use mathlib.Core.Path.{_≡_};
-ghost use mathlib.Core.Bool.{true};
-ghost use Prim.Native.Nat.{_+_, _*_, _<_, _≤_};
-ghost use lib.ListN.{length, getD, take, drop};
-ghost use Rattle.rules.specs.Entry.{legal, lastParty, recordIn};
-ghost use Rattle.rules.specs.Words.{isBook, entries};
-ghost use Rattle.rules.specs.Balance.{dayAhead, balanceOf, isDetected, sumCount};
+ghost use mathlib.Core.Bool.{true, cond};
+ghost use Prim.Native.Nat.{_+_, _<_, _≤_};
+ghost use lib.Dec.{eqb};
+ghost use lib.ListN.{length, getD};
+ghost use Rattle.rules.specs.Entry.{key, legal, bilateral, lastParty, recordIn};
+ghost use Rattle.rules.specs.Words.{isBook, entries, mostCoefficient, mostTolerance};
+ghost use Rattle.rules.specs.Balance.{isDetected};
 ghost use Rattle.cells.specs.Cells.{addTo, added, blank, AtMost};
-ghost use Rattle.tally.specs.Scan.{counts};
-ghost use Rattle.tally.specs.Bounded.{Bounded, mostSum};
-ghost use Rattle.detection.specs.Tables.{flagged, noFlags, partyCells, tableCells, dayCells, tableOf, tallyAt, boughtCell, Flaggable, detectedAmong, checked};
+ghost use Rattle.tally.specs.Bounded.{mostSum};
+ghost use Rattle.detection.specs.Tables.{flagged, noFlags, isSaleType, isReadType, lastType, sideOf, isRead, ownAmount, tableCells, dayCells, tableOf, aheadAt, Flaggable, detectedAmong, checked};
+use crate::parties::Flags;
 use rules::Entry;
-use rules::SUMS;
-use rules::Tally;
 use rules::bounds::NUMBERS;
 use rules::layout::BILATERAL;
 use rules::layout::ENTRY_WORDS;
@@ -21,24 +20,93 @@ use rules::layout::HEAD_WORDS;
 use rules::layout::STANDING;
 use tally::balances;
 
-// A flag for each party's number; 0 is no party.
-pub type Flags = [bool; NUMBERS];
+// The cells of each number: S, C but for the next two, capacity tender and import notification.
+const PARTY_CELLS: usize = 4;
 
-// The cells of each number: a party's sums of the day, and B.
-const PARTY_CELLS: usize = SUMS + 1;
+const SALES: usize = 0;
 
-pub const CELLS: usize = PARTY_CELLS * NUMBERS;
+const COVER: usize = 1;
+
+const CELLS: usize = PARTY_CELLS * NUMBERS;
+
+// A bit for each type that the day-ahead balance reads: 1, 3, 4, 6, 7, 9, 10 and 12 to 16 (01, 'The two balances').
+const READ_TYPES: u64 = (1 << 1)
+    + (1 << 3)
+    + (1 << 4)
+    + (1 << 6)
+    + (1 << 7)
+    + (1 << 9)
+    + (1 << 10)
+    + (1 << 12)
+    + (1 << 13)
+    + (1 << 14)
+    + (1 << 15)
+    + (1 << 16);
+
+// Two bits for each type, its cell: cover for 7, 9, 10 and 12 to 14, then 15 and 16, sales for the others.
+const SIDES: u64 = (1 << 14)
+    + (1 << 18)
+    + (1 << 20)
+    + (1 << 24)
+    + (1 << 26)
+    + (1 << 28)
+    + (2 << 30)
+    + (3 << 32);
 
 pub type Table = [u64; CELLS];
 
-// Whether an entry counts: standing, of the day, of a volume type, no export.
-fn counts(e: Entry, day: u32) -> bool
-    ensures { λ r. ⌜ r ≡ counts day (recordIn e .label) ⌝ }
+// The sales of the day-ahead balance (Article 7).
+pub fn is_sale(entry_type: u32) -> bool
+    ensures { λ r. ⌜ r ≡ isSaleType «entry_type» ⌝ }
+{
+    (entry_type == 1) | (entry_type == 3) | (entry_type == 4) | (entry_type == BILATERAL)
+}
+
+// Whether that balance reads a type.
+fn is_read_type(entry_type: u32) -> bool
+    requires { ⌜ «entry_type» ≤ lastType ⌝ }
+    ensures { λ r. ⌜ r ≡ isReadType «entry_type» ⌝ }
+{
+    (READ_TYPES >> entry_type) % 2 == 1
+}
+
+// The cell of a type among its party's.
+fn side_of(entry_type: u32) -> usize
+    requires { ⌜ «entry_type» ≤ lastType ⌝ }
+    ensures { λ r. ⌜ r ≡ sideOf «entry_type» ⌝ }
+{
+    ((SIDES >> (2 * entry_type)) % 4) as usize
+}
+
+// Whether an entry is read: standing, of the day, of such a type, no export.
+fn is_read(e: Entry, day: u32) -> bool
+    requires { ⌜ key (recordIn e) .type ≤ lastType ⌝ }
+    ensures { λ r. ⌜ r ≡ isRead day (recordIn e .label) ⌝ }
 {
     (e.status == STANDING)
         & (e.key.day == day)
-        & entry_checks::is_volume(e.key.entry_type)
+        & is_read_type(e.key.entry_type)
         & !((e.key.entry_type == BILATERAL) & (e.key.counterparty == 0))
+}
+
+// What an entry adds to its party's cell: 0 where it is not read. A branch on an entry's type, day or status would be
+// mispredicted.
+fn read_amount(e: Entry, day: u32) -> u64
+    requires { ⌜ key (recordIn e) .type ≤ lastType ⌝ }
+    ensures { λ r. ⌜ r ≡ ownAmount day (recordIn e) ⌝ }
+{
+    if is_read(e, day) { e.amount } else { 0 }
+}
+
+// And to its counterparty's cover: 0 where it is no bilateral sale.
+fn sold_amount(e: Entry, amount: u64) -> u64
+    ensures { λ r. ⌜ r ≡ cond (eqb (key (recordIn e) .type) bilateral) amount 0 ⌝ }
+{
+    if e.key.entry_type == BILATERAL {
+        amount
+    } else {
+        0
+    }
 }
 
 fn add_to(table: &mut Table, cell: usize, amount: u64)
@@ -48,28 +116,21 @@ fn add_to(table: &mut Table, cell: usize, amount: u64)
     table[cell] = table[cell] + amount;
 }
 
-// An entry's amount goes to its party's sum and, of a bilateral sale, to its counterparty's B.
+// An entry's amount goes to its party's cell and, of a bilateral sale, to its counterparty's cover.
 fn add_entry(table: &mut Table, e: Entry, day: u32)
     requires { ⌜ legal (recordIn e) ≡ true ⌝ }
     requires { ⌜ AtMost mostSum (now table) ⌝ }
     ensures { λ _. ⌜ now (table .exit) ≡ added (dayCells day) (recordIn e) (now (table .entry)) ⌝ }
 {
-    if !counts(e, day) {
-        return;
-    }
-    let place = tally::sum_place(e.key.entry_type);
+    let side = side_of(e.key.entry_type);
+    let amount = read_amount(e, day);
+    let sold = sold_amount(e, amount);
+    add_to(table, PARTY_CELLS * (e.key.party as usize) + side, amount);
     add_to(
         table,
-        PARTY_CELLS * (e.key.party as usize) + place,
-        e.amount,
+        PARTY_CELLS * (e.key.counterparty as usize) + COVER,
+        sold,
     );
-    if e.key.entry_type == BILATERAL {
-        add_to(
-            table,
-            PARTY_CELLS * (e.key.counterparty as usize) + SUMS,
-            e.amount,
-        );
-    }
 }
 
 // One scan of the book fills the table.
@@ -87,30 +148,20 @@ fn fill(book: &[u32], day: u32, table: &mut Table)
     }
 }
 
-// A party's sums.
-fn sums_of(table: &Table, party: usize) -> [u64; SUMS]
+// Whether a party's day-ahead balance is detected: above zero. Without a sale it is not.
+fn is_detected(table: &Table, party: usize, coefficient: u32, tolerance: u32) -> bool
     requires { ⌜ (party ≤ lastParty) × (length (now table) ≡ tableCells) ⌝ }
-    ensures { λ r. ⌜ r ≡ take sumCount (drop (partyCells * party) (now (table .entry))) ⌝ }
+    requires { ⌜ AtMost mostSum (now table) ⌝ }
+    requires { ⌜ (coefficient ≤ mostCoefficient) × (tolerance ≤ mostTolerance) ⌝ }
+    ensures { λ r. ⌜ r ≡ isDetected (aheadAt coefficient tolerance (now (table .entry)) party) ⌝ }
 {
-    let mut sums = [0u64; SUMS];
-    let mut k = 0;
-    while k < SUMS {
-        sums[k] = table[PARTY_CELLS * party + k];
-        k += 1;
+    let at = PARTY_CELLS * party;
+    let sales = table[at + SALES];
+    if sales == 0 {
+        return false;
     }
-    sums
-}
-
-// Whether a party's day-ahead balance is detected: above zero.
-fn is_detected(table: &Table, party: u32, coefficient: u32, tolerance: u32) -> bool
-    requires { ⌜ (party ≤ lastParty) × (length (now table) ≡ tableCells) ⌝ }
-    requires { ⌜ Bounded (tallyAt (now table) party) (getD (now table) (boughtCell party) 0) coefficient tolerance ⌝ }
-    ensures { λ r. ⌜ r ≡ isDetected (balanceOf dayAhead coefficient tolerance (tallyAt (now (table .entry)) party) (getD (now (table .entry)) (boughtCell party) 0)) ⌝ }
-{
-    let sums = sums_of(table, party as usize);
-    let bought = table[PARTY_CELLS * (party as usize) + SUMS];
-    let tally = Tally { party, sums };
-    position::detected(balances::day_ahead_of(tally, bought, coefficient, tolerance))
+    let cover = table[at + COVER] + numbers::larger(table[at + 2], table[at + 3]);
+    position::detected(balances::balanced(sales, cover, coefficient, tolerance))
 }
 
 // Flags the detected ones among some parties.
@@ -121,22 +172,22 @@ fn flag_detected(table: &Table, coefficient: u32, tolerance: u32, among: &Flags,
     let mut p = 1;
     while p < NUMBERS {
         if among[p] {
-            flags[p] = is_detected(table, p as u32, coefficient, tolerance);
+            flags[p] = is_detected(table, p, coefficient, tolerance);
         }
         p += 1;
     }
 }
 
 // Flags the parties among some whose day-ahead balance of the day is detected.
-pub fn detect(book: &[u32], day: u32, table: &mut Table, among: &Flags, flags: &mut Flags)
+pub fn detect(book: &[u32], day: u32, among: &Flags, flags: &mut Flags)
     requires { ⌜ isBook (now book) ≡ true ⌝ }
-    requires { ⌜ now table ≡ blank tableCells ⌝ }
     requires { ⌜ now flags ≡ noFlags ⌝ }
     ensures { λ _. ⌜ flagged (now (flags .exit)) ≡ checked (now (book .entry)) day (now (among .entry)) ⌝ }
 {
-    fill(book, day, table);
+    let mut table = [0u64; CELLS];
+    fill(book, day, &mut table);
     flag_detected(
-        table,
+        &table,
         words::coefficient_of(book),
         words::tolerance_of(book),
         among,

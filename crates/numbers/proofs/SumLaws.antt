@@ -1,5 +1,5 @@
 -- Laws of the sums of Sums.antt. Assumes nothing.
-use mathlib.Core.Path.{_≡_, refl, ap, ap₂}
+use mathlib.Core.Path.{_≡_, refl, sym, ap, ap₂, _∙_}
 use mathlib.Core.Bool.{Bool, true, false, cond}
 use mathlib.Core.List.{List, [], _∷_, _++_, map}
 use Prim.Native.Nat.{ℕ, zero, suc, _+_, _*_, _≤_, _<_, zero-le}
@@ -50,6 +50,23 @@ module _ {A : Type 0} where
   pub count-le-length : (f : A → Bool) (xs : List A) → count f xs ≤ length xs
   unfolding count
   count-le-length f xs = rw mul-one at (total-bound _ 1 (λ x. cond-below (f x) 1) xs)
+
+  -- of two figures each, and of none
+  pub total-plus : (f g : A → ℕ) (xs : List A) → total (λ x. f x + g x) xs ≡ total f xs + total g xs
+  unfolding total
+  total-plus f g [] = refl
+  total-plus f g (x ∷ xs) = omega (arith, total-plus f g xs)
+
+  pub total-none : (xs : List A) → total (λ x. 0) xs ≡ 0
+  unfolding total
+  total-none [] = refl
+  total-none (x ∷ xs) = omega (arith, total-none xs)
+
+-- sums over two lists, in either order
+pub total-exchange : {A B : Type 0} (f : A → B → ℕ) (xs : List A) (ys : List B) → total (λ x. total (f x) ys) xs ≡ total (λ y. total (λ x. f x y) xs) ys
+unfolding total
+total-exchange f [] ys = sym (total-none ys)
+total-exchange f (x ∷ xs) ys = ap (λ n. total (f x) ys + n) (total-exchange f xs ys) ∙ sym (total-plus (f x) (λ y. total (λ z. f z y) xs) ys)
 
 -- the total over a list's image
 pub total-map : {A B : Type 0} (f : B → ℕ) (g : A → B) (xs : List A) → total f (map g xs) ≡ total (λ x. f (g x)) xs

@@ -33,7 +33,7 @@ fn raised(program: u64, update: u64) -> u64
 }
 
 // The balance of S and C. The cover tolerance R is on the cover side alone.
-fn balanced(sale: u64, cover: u64, coefficient: u32, tolerance: u32) -> i64
+pub fn balanced(sale: u64, cover: u64, coefficient: u32, tolerance: u32) -> i64
     requires { ⌜ (sale ≤ 6 * mostSum) × (cover ≤ 10 * mostSum) × (coefficient ≤ mostCoefficient) × (tolerance ≤ mostTolerance) ⌝ }
     ensures { λ r. ⌜ r ≡ subℕ (100 * sale) (max (100 * tolerance) (cover * coefficient)) ⌝ }
 {

@@ -1,8 +1,8 @@
 -- `control::passes::cancel` meets its contract. The loop's invariant: the entries passed are as the pass leaves them, the others as they were. Assumes nothing.
-use mathlib.Core.Path.{_≡_, refl, sym, ap, _∙_}
+use mathlib.Core.Path.{_≡_, refl, sym, ap, ap₂, _∙_}
+use mathlib.Core.Bool.{cond}
 use mathlib.Core.Logic.{⊎-elim}
-use Prim.Native.Nat.{_+_, _-_, _≤_, _<_}
-use native.Mathlib.Nat.{add-zero}
+use Prim.Native.Nat.{ℕ, _+_, _-_, _≤_, _<_}
 use native.Mathlib.Omega.{arith}
 use lib.ListN.{take}
 use Rattle.numbers.specs.Sums.{total, count}
@@ -11,6 +11,7 @@ use Rattle.rules.specs.Control.{isToCancel}
 use Rattle.rules.proofs.WordLaws.{book-facts}
 use Rattle.words.proofs.BookCode.{Placed, book-long}
 use Rattle.detection.specs.Tables.{flagged}
+use Rattle.detection.proofs.PairLaws.{one-most}
 use Rattle.cells.proofs.ScanLaws.{scan-few, scan-end}
 use Rattle.control.proofs.CancelLaws.{Through, through-none, through-all, through-length, through-placed, through-party, through-read, through-cancelled, through-kept, count-more, count-few}
 use borrow.Author.Needs.{needs}
@@ -63,12 +64,16 @@ is-to-cancel-requires c κs = search (through-party, taken)
 set-status-requires : tie.Need-set-status-requires Inv-loop μ-loop
 set-status-requires c κs = let p = placed (turn (c .before .before)) in (p .within, (p .ok, search needs))
 
+one-if-requires : tie.Need-one-if-requires Inv-loop μ-loop
+one-if-requires c κs = search needs
+
 add-n : tie.Need-add-n Inv-loop μ-loop
 add-n c =
-    let t = turn (c .before .before .before .before .before) in
+    let t = turn (c .before .before) in
     let l = t .before in
     let a = start l .args in
-    omega (arith, l .loop .inv, count-few (isToCancel (flagged (a .flags .now)) (a .day)) (l .loop .i) (entries (a .book .now)), taken t, scan-few (a .book .now) (start l .pre))
+    let n = count-few (isToCancel (flagged (a .flags .now)) (a .day)) (l .loop .i) (entries (a .book .now)) in
+    omega (arith, l .loop .inv, n, taken t, scan-few (a .book .now) (start l .pre), one-most (c .before .before .is-to-cancel .result) (c .one-if .ensures))
 
 add-i : tie.Need-add-i Inv-loop μ-loop
 add-i c = search needs
@@ -78,28 +83,22 @@ loop-less c = search needs
 
 loop-again : tie.Need-loop-again Inv-loop μ-loop
 loop-again c =
-    let t = turn (c .before) in
+    let k = c .before .before in
+    let t = turn k in
     let l = t .before in
     let a = start l .args in
     let b = start l .pre in
     let v = l .loop .inv in
-    let q = c .before .before .read-at .ensures in
+    let q = k .before .read-at .ensures in
     let r = through-read _ _ _ b _ (taken t) _ (v .1) _ q in
-    let m = count-more (flagged (a .flags .now)) (a .day) (l .loop .i) (entries (a .book .now)) (rw (book-facts (a .book .now) b .count) (taken t)) in
-    ⊎-elim
-    (λ w.
-    let y = sym (c .before .is-to-cancel .ensures) ∙ w .0 .taken in (
+    let m = count-more (flagged (a .flags .now)) (a .day) (l .loop .i) (entries (a .book .now)) (rw (book-facts (a .book .now) b .count) (taken t)) in (
       omega arith,
-      w .5 ∙ through-cancelled _ _ _ b _ (taken t) _ (v .1) _ q y (w .2 .ensures),
-      w .6 ∙ ap (λ n. n + 1) (v .2) ∙ sym (m ∙ rw (← r, y)),
-    ))
-    (λ w.
-    let y = sym (c .before .is-to-cancel .ensures) ∙ w .0 .left in (
-      omega arith,
-      w .1 ∙ through-kept _ _ _ b _ (taken t) _ (v .1) _ q y,
-      w .2 ∙ v .2 ∙ sym (m ∙ rw (← r, y, add-zero)),
-    ))
-    (c .if1 .came)
+      ⊎-elim
+          (λ w. w .5 ∙ through-cancelled _ _ _ b _ (taken t) _ (v .1) _ q (sym (k .is-to-cancel .ensures) ∙ w .0 .taken) (w .2 .ensures))
+          (λ w. w .1 ∙ through-kept _ _ _ b _ (taken t) _ (v .1) _ q (sym (k .is-to-cancel .ensures) ∙ w .0 .left))
+          (c .before .if1 .came),
+      ap₂ _+_ (v .2) (c .one-if .ensures ∙ ap {B = ℕ} (λ y. cond y 1 0) (k .is-to-cancel .ensures ∙ ap (isToCancel (flagged (a .flags .now)) (a .day)) r)) ∙ sym m,
+    )
 
 same-length : tie.Need-same-length Inv-loop μ-loop
 same-length c = search through-length
@@ -126,6 +125,7 @@ cancel-spec =
     read-at-requires
     is-to-cancel-requires
     set-status-requires
+    one-if-requires
     add-n
     add-i
     loop-less

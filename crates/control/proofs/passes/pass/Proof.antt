@@ -10,8 +10,8 @@ flag-parties-requires : tie.Need-flag-parties-requires
 unfolding noFlags
 flag-parties-requires c κs = (c .before .before .before .pre, refl)
 
-count-flags-requires : tie.Need-count-flags-requires
-count-flags-requires c κs = search needs
+count-requires : tie.Need-count-requires
+count-requires c κs = search needs
 
 cancel-requires : tie.Need-cancel-requires
 cancel-requires c κs = search needs
@@ -24,9 +24,9 @@ returns c =
     let cancelled = c .before .before in
     let counted = cancelled .before .before .before in
     let e = counted .before .before .flag-parties .ensures in
-    (pass-counts _ _ e (counted .count-flags .ensures) (cancelled .cancel .ensures .0), pass-words _ _ e (cancelled .cancel .ensures .1))
+    (pass-counts _ _ e (counted .count .ensures) (cancelled .cancel .ensures .0), pass-words _ _ e (cancelled .cancel .ensures .1))
 
 pub pass-spec : {M : Type 1} → statement M
 pass-spec =
     tie.close
-    (tie.spec flag-parties-requires count-flags-requires cancel-requires same-length returns)
+    (tie.spec flag-parties-requires count-requires cancel-requires same-length returns)

@@ -1,15 +1,16 @@
--- `detection::bits::bit_at` meets its contract. Assumes nothing.
 use mathlib.Core.Path.{refl}
 use Rattle.detection.specs.Tables.{bitAt}
 use borrow.Author.Needs.{needs}
 use Rattle.detection.proofs.bits.bit_at.Statement.{statement}
 use Rattle.detection.proofs.bits.bit_at.Tie as tie
+use Rattle.detection.proofs.bits.bit_at.Reads as reads
+use Rattle.detection.proofs.bits.bit_at.Lts as lts
 
 mul-result : tie.Need-mul-result
 mul-result c = search needs
 
-element-copy-out-result : tie.Need-element-copy-out-result
-element-copy-out-result c = search needs
+shared-slice-read-result : tie.Need-shared-slice-read-result
+shared-slice-read-result c = search needs
 
 shr-result : tie.Need-shr-result
 shr-result c = search needs
@@ -19,4 +20,4 @@ unfolding bitAt
 returns c = refl
 
 pub bit-at-spec : {M : Type 1} → statement M
-bit-at-spec = tie.close (tie.spec mul-result element-copy-out-result shr-result returns)
+bit-at-spec = tie.close (tie.spec mul-result shared-slice-read-result shr-result returns)

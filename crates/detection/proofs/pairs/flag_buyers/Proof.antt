@@ -1,25 +1,41 @@
--- `detection::pairs::flag_buyers` meets its contract. Assumes nothing.
-use mathlib.Core.Path.{ap, _∙_}
-use Rattle.rules.specs.Words.{entries}
-use Rattle.rules.proofs.WordLaws.{book-facts}
-use Rattle.detection.specs.Tables.{flagged, buyersOf}
-use Rattle.detection.proofs.PairLaws.{buyers-flagged}
+use Rattle.detection.proofs.PairLaws.{pairs-long, buyers-are, no-others}
 use borrow.Author.Needs.{needs}
 use Rattle.detection.proofs.pairs.flag_buyers.Statement.{statement}
 use Rattle.detection.proofs.pairs.flag_buyers.Tie as tie
+use Rattle.detection.proofs.pairs.flag_buyers.Reads as reads
+use Rattle.detection.proofs.pairs.flag_buyers.Lts as lts
+use Rattle.detection.proofs.pairs.mark_buyers.Reads as mark-buyers-reads
+use Rattle.detection.proofs.pairs.mark_pairs.Reads as mark-pairs-reads
+
+abbrev start : tie.After-mark-pairs → tie.Start
+start m = m .before .before .before .before
 
 mark-pairs-requires : tie.Need-mark-pairs-requires
 mark-pairs-requires c κs = search needs
 
 mark-buyers-requires : tie.Need-mark-buyers-requires
-mark-buyers-requires c κs = search needs
+mark-buyers-requires c κs =
+    let m = c .before .before .before .before .before in
+    let s = start m in
+    (s .pre .0, (pairs-long _ _ _ (m .mark-pairs .ensures .1), s .pre .1 .1))
+
+same-length : tie.Need-same-length
+same-length c = search needs
 
 returns : tie.Need-returns
 returns c =
+    let m = c .before .before .before .before .before .before in
+    buyers-are _ _ _ _ _ (start m .pre .0) (m .mark-pairs .ensures .1) (c .mark-buyers .ensures)
+
+same-length-2 : tie.Need-same-length-2
+same-length-2 c = search needs
+
+returns-2 : tie.Need-returns-2
+returns-2 c =
     let m = c .before .before .before in
-    let s = m .before .before .before in
-    ap flagged (c .mark-buyers .ensures ∙ ap (λ pairs. buyersOf (s .args .day) pairs (entries (s .args .book .now))) (m .mark-pairs .ensures))
-    ∙ buyers-flagged (s .args .day) (entries (s .args .book .now)) (book-facts (s .args .book .now) (s .pre .0) .legals)
+    no-others _ _ _ _ _ (m .mark-pairs .ensures .0) (search needs) (start m .pre .1 .1)
 
 pub flag-buyers-spec : {M : Type 1} → statement M
-flag-buyers-spec = tie.close (tie.spec mark-pairs-requires mark-buyers-requires returns)
+flag-buyers-spec =
+    tie.close
+    (tie.spec mark-pairs-requires mark-buyers-requires same-length returns same-length-2 returns-2)

@@ -11,46 +11,46 @@ use Rattle.detection.proofs.pairs.mark_buyer.Tie as tie
 -- past the first test: the start, and the pair of a cancelled entry
 module _ (e : tie.Else1) where
   abbrev start : tie.Start
-  start = e .before .before .before
+  start = e .before .before .before .before
 
   pair : Paired (recordIn (start .args .e))
-  pair = paired _ (start .pre) (of-day-cancelled (start .args .day) (recordIn (start .args .e)) (e .if1 .left))
+  pair = paired _ (start .pre .0) (of-day-cancelled (start .args .few) (start .args .day) (recordIn (start .args .e)) (e .if1 .left))
 
 returns : tie.Need-returns
-returns c = buyer-not _ _ _ _ (c .if1 .taken)
+returns c = search buyer-not
 
-pair-of-requires : tie.Need-pair-of-requires
-pair-of-requires c κs = pair c
+bit-of-requires : tie.Need-bit-of-requires
+bit-of-requires c κs = pair c
+
+cast-buyer : tie.Need-cast-buyer
+cast-buyer c = search needs
+
+element-copy-out-if2 : tie.Need-element-copy-out-if2
+element-copy-out-if2 c = let p = pair (c .before .before) in omega arith
 
 bit-at-requires : tie.Need-bit-at-requires
-bit-at-requires c κs = search (pair-in, pair)
-
-cast-buyers : tie.Need-cast-buyers
-cast-buyers c = search needs
+bit-at-requires c κs =
+    let e = c .before .before .before in
+    rw (start e .pre .1) (pair-in (start e .args .few) _ (pair e) (search needs))
 
 element-write-buyers : tie.Need-element-write-buyers
-element-write-buyers c = let p = pair (c .before .before .before .before) in omega arith
+element-write-buyers c = let p = pair (c .before .before .before .before .before) in omega arith
 
 returns-2 : tie.Need-returns-2
-returns-2 c =
-    let b = c .before .before in
-    let p = b .before in
-    buyer-marked _ _ _ _ (p .before .if1 .left) (p .pair-of .ensures) (sym (b .bit-at .ensures) ∙ c .before .if2 .taken)
+returns-2 c = search buyer-marked
 
 returns-3 : tie.Need-returns-3
-returns-3 c =
-    let b = c .before in
-    let p = b .before in
-    buyer-kept _ _ _ _ (p .before .if1 .left) (p .pair-of .ensures) (sym (b .bit-at .ensures) ∙ c .if2 .left)
+returns-3 c = search buyer-kept
 
 pub mark-buyer-spec : {M : Type 1} → statement M
 mark-buyer-spec =
     tie.close
     (tie.spec
     returns
-    pair-of-requires
+    bit-of-requires
+    cast-buyer
+    element-copy-out-if2
     bit-at-requires
-    cast-buyers
     element-write-buyers
     returns-2
     returns-3)

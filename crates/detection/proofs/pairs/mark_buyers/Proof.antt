@@ -7,10 +7,10 @@ use Rattle.detection.proofs.pairs.mark_buyers.Statement.{statement}
 use Rattle.detection.proofs.pairs.mark_buyers.Tie as tie
 
 abbrev Inv-loop : tie.InvT-loop
-Inv-loop book day pairs buyers₀ count i₀ buyers i = Scanned (buyerMarked day pairs) noFlags book count i buyers
+Inv-loop book day few among pairs buyers₀ count i₀ buyers i = Scanned (buyerMarked few day among pairs) noFlags book count i buyers
 
 abbrev μ-loop : tie.MeasureT-loop
-μ-loop book day pairs buyers₀ count i₀ buyers i = count - i
+μ-loop book day few among pairs buyers₀ count i₀ buyers i = count - i
 
 count-of-requires : tie.Need-count-of-requires Inv-loop μ-loop
 count-of-requires c κs = search scan
@@ -31,7 +31,7 @@ read-at-requires : tie.Need-read-at-requires Inv-loop μ-loop
 read-at-requires c κs = search scan
 
 mark-buyer-requires : tie.Need-mark-buyer-requires Inv-loop μ-loop
-mark-buyer-requires c κs = search scan
+mark-buyer-requires c κs = (search scan, search needs)
 
 add-i : tie.Need-add-i Inv-loop μ-loop
 add-i c = search needs

@@ -1,39 +1,62 @@
--- `detection::pairs::mark_pair` meets its contract. Assumes nothing.
-use mathlib.Core.Path.{_≡_, sym, _∙_}
-use mathlib.Core.Bool.{true}
+use mathlib.Core.Path.{_≡_, sym, ap, _∙_}
+use mathlib.Core.Bool.{true, cond}
+use Prim.Native.Nat.{ℕ}
+use mathlib.Core.Logic.{⊎-elim}
 use Rattle.rules.specs.Entry.{recordIn}
-use Rattle.detection.specs.Tables.{isOther, Paired}
-use Rattle.detection.proofs.PairLaws.{paired, other-cancelled, pair-in, pair-marked, pair-kept}
+use Rattle.detection.specs.Tables.{isOther, Paired, pairMarked}
+use Rattle.detection.proofs.PairLaws.{paired, other-cancelled, pair-in, pair-long, pair-marked, pair-kept}
 use borrow.Author.Needs.{needs}
 use Rattle.detection.proofs.pairs.mark_pair.Statement.{statement}
 use Rattle.detection.proofs.pairs.mark_pair.Tie as tie
+use Rattle.detection.proofs.pairs.mark_pair.Reads as reads
+use Rattle.detection.proofs.pairs.mark_pair.Lts as lts
+use Rattle.detection.proofs.bits.set_bit.Reads as set-bit-reads
+use Rattle.detection.proofs.pairs.bit_of.Reads as bit-of-reads
+use Rattle.detection.proofs.pairs.is_other.Reads as is-other-reads
 
-yes : (c : tie.Then1) → isOther (c .before .before .args .day) (recordIn (c .before .before .args .e)) ≡ true
-yes c = sym (c .before .is-other .ensures) ∙ c .if1 .taken
+-- past the test: a cancelled entry of another day, and its pair
+module _ (c : tie.Then1) where
+  abbrev s : tie.Start
+  s = c .before .before .before
 
-pair : (c : tie.Then1) → Paired (recordIn (c .before .before .args .e))
-pair c =
-    let s = c .before .before in
-    paired (recordIn (s .args .e)) (s .pre .1) (other-cancelled (s .args .day) (recordIn (s .args .e)) (yes c))
+  yes : isOther (s .args .day) (recordIn (s .args .e)) ≡ true
+  yes = sym (c .before .is-other .ensures) ∙ c .if1 .taken
+
+  pair : Paired (recordIn (s .args .e))
+  pair = paired (recordIn (s .args .e)) (s .pre .1 .0) (other-cancelled (s .args .day) (recordIn (s .args .e)) yes)
 
 is-other-requires : tie.Need-is-other-requires
 is-other-requires c κs = search needs
 
-pair-of-requires : tie.Need-pair-of-requires
-pair-of-requires c κs = pair c
+bit-of-requires : tie.Need-bit-of-requires
+bit-of-requires c κs = pair c
 
 set-bit-requires : tie.Need-set-bit-requires
-set-bit-requires c κs = pair-in (recordIn (c .before .before .before .before .args .e)) (pair (c .before .before)) (c .before .pair-of .ensures)
+set-bit-requires c κs =
+    let t = c .before .before in
+    rw (s t .pre .1 .1) (pair-in (s t .args .few) (recordIn (s t .args .e)) (pair t) (c .before .bit-of .ensures))
+
+one-if-requires : tie.Need-one-if-requires
+one-if-requires c κs = search needs
+
+-- the bits, either way
+left : (c : tie.After-one-if) →
+    let a = c .before .before .before .before .args in
+    c .before .if1 .pairs ≡ pairMarked (a .few) (a .day) (recordIn (a .e)) (a .pairs .now)
+left c =
+    let q = c .before .before .is-other .ensures in
+    ⊎-elim
+    (λ w. w .6 ∙ pair-marked _ _ _ _ (sym q ∙ w .0 .taken) (w .1 .ensures) (w .3 .ensures))
+    (λ w. w .1 ∙ pair-kept _ _ _ _ (sym q ∙ w .0 .left))
+    (c .before .if1 .came)
+
+same-length : tie.Need-same-length
+same-length c = rw (left c) (pair-long _ _ _ _)
 
 returns : tie.Need-returns
-returns c =
-    let t = c .before .before .before in
-    let a = t .before .before .args in
-    c .set-bit .ensures ∙ pair-marked (a .day) (recordIn (a .e)) (a .pairs .now) (c .before .before .pair-of .ensures) (yes t)
-
-returns-2 : tie.Need-returns-2
-returns-2 c = let s = c .before .before in pair-kept (s .args .day) (recordIn (s .args .e)) (s .args .pairs .now) (sym (c .before .is-other .ensures) ∙ c .if1 .left)
+returns c = (c .one-if .ensures ∙ ap {B = ℕ} (λ b. cond b 1 0) (c .before .before .is-other .ensures), left c)
 
 pub mark-pair-spec : {M : Type 1} → statement M
 mark-pair-spec =
-    tie.close (tie.spec is-other-requires pair-of-requires set-bit-requires returns returns-2)
+    tie.close
+    (tie.spec is-other-requires bit-of-requires set-bit-requires one-if-requires same-length returns)

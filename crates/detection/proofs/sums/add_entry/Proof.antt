@@ -1,41 +1,31 @@
--- `detection::sums::add_entry` meets its contract. Assumes nothing.
-use mathlib.Core.Path.{_≡_, sym}
 use native.Mathlib.Omega.{arith}
 use Rattle.rules.specs.Entry.{key, recordIn}
-use Rattle.cells.specs.Cells.{addTo}
-use Rattle.detection.specs.Tables.{sumCell}
-use Rattle.entry_checks.proofs.Ladder.{passed, failed}
-use Rattle.detection.proofs.TableLaws.{Counted, counted-facts, not-counted, add-fits, add-fits-again, sum-only, sum-and-bought}
+use Rattle.detection.proofs.TableLaws.{type-most, side-few, Adds, adds, add-fits, add-fits-again, added-is}
 use borrow.Author.Needs.{needs}
 use Rattle.detection.proofs.sums.add_entry.Statement.{statement}
 use Rattle.detection.proofs.sums.add_entry.Tie as tie
+use Rattle.detection.proofs.sums.add_entry.Reads as reads
+use Rattle.detection.proofs.sums.add_entry.Lts as lts
+use Rattle.detection.proofs.sums.add_to.Reads as add-to-reads
+use Rattle.detection.proofs.sums.read_amount.Reads as read-amount-reads
+use Rattle.detection.proofs.sums.side_of.Reads as side-of-reads
+use Rattle.detection.proofs.sums.sold_amount.Reads as sold-amount-reads
 
--- past the test: the entry counts
-module _ (e : tie.Else1) where
-  abbrev start : tie.Start
-  start = e .before .before
+-- with both amounts: what they and the entry's figures stay within
+abbrev start : tie.After-sold-amount → tie.Start
+start c = c .before .before .before
 
-  facts : Counted (start .args .day) (recordIn (start .args .e))
-  facts = search (counted-facts, passed)
+facts : (c : tie.After-sold-amount) → Adds (recordIn (start c .args .e)) (c .before .read-amount .result) (c .sold-amount .result)
+facts c = search adds
 
--- with its own cell added to: the place of its sum
-abbrev placed : tie.After-add-to → tie.After-sum-place
-placed o = o .before .before .before
+side-of-requires : tie.Need-side-of-requires
+side-of-requires c κs = search type-most
 
-own-added : (o : tie.After-add-to) →
-    let a = start (placed o .before) .args in
-    let r = recordIn (a .e) in
-    o .add-to .last .0 ≡ addTo (a .table .now) (sumCell (key r .party) (key r .type)) (r .amount)
-own-added o = rw (placed o .sum-place .ensures) at (o .add-to .ensures)
+read-amount-requires : tie.Need-read-amount-requires
+read-amount-requires c κs = search type-most
 
-counts-requires : tie.Need-counts-requires
-counts-requires c κs = search needs
-
-returns : tie.Need-returns
-returns c = sym (not-counted _ _ _ (failed (c .before .counts .ensures) (c .if1 .taken)))
-
-sum-place-requires : tie.Need-sum-place-requires
-sum-place-requires c κs = facts c .facts .volume
+sold-amount-requires : tie.Need-sold-amount-requires
+sold-amount-requires c κs = search needs
 
 cast-add-to : tie.Need-cast-add-to
 cast-add-to c = search needs
@@ -45,15 +35,15 @@ mul-add-to c = search needs
 
 add-add-to : tie.Need-add-add-to
 add-add-to c =
-    let p = c .before .before in
-    let f = facts (p .before) in
-    omega (arith, p .sum-place .ensures)
+    let f = facts (c .before .before) in
+    let o = c .before .before .before .before in
+    omega (arith, o .side-of .ensures, side-few (key (recordIn (o .before .args .e)) .type))
 
 add-to-requires : tie.Need-add-to-requires
 add-to-requires c κs =
-    let p = c .before .before in
-    let f = facts (p .before) in
-    add-fits _ _ _ (start (p .before) .pre .1) (omega (arith, p .sum-place .ensures)) (f .amount)
+    let f = facts (c .before .before) in
+    let o = c .before .before .before .before in
+    add-fits _ (o .before .pre .1) _ _ (omega (arith, o .side-of .ensures, side-few (key (recordIn (o .before .args .e)) .type))) (f .own)
 
 cast-add-to-2 : tie.Need-cast-add-to-2
 cast-add-to-2 c = search needs
@@ -66,24 +56,21 @@ add-add-to-2 c = search needs
 
 add-to-requires-2 : tie.Need-add-to-requires-2
 add-to-requires-2 c κs =
-    let o = c .before .before .before .before in
-    let e = placed o .before in
-    let f = facts e in
-    add-fits-again _ _ _ _ _ (o .add-to .ensures) (λ q. omega (arith, q, placed o .sum-place .ensures)) (start e .pre .1) (omega arith) (f .amount)
+    let a = c .before .before in
+    let k = a .before .before .before in
+    let f = facts k in
+    add-fits-again _ (start k .pre .1) _ _ _ _ (a .add-to .ensures) (f .own) (omega arith) (f .sold)
 
-returns-2 : tie.Need-returns-2
-returns-2 c = search (sum-and-bought, passed, own-added)
-
-returns-3 : tie.Need-returns-3
-returns-3 c = search (sum-only, passed, own-added, c .if2 .left)
+returns : tie.Need-returns
+returns c = search added-is
 
 pub add-entry-spec : {M : Type 1} → statement M
 add-entry-spec =
     tie.close
     (tie.spec
-    counts-requires
-    returns
-    sum-place-requires
+    side-of-requires
+    read-amount-requires
+    sold-amount-requires
     cast-add-to
     mul-add-to
     add-add-to
@@ -92,5 +79,4 @@ add-entry-spec =
     mul-add-to-2
     add-add-to-2
     add-to-requires-2
-    returns-2
-    returns-3)
+    returns)

@@ -21,13 +21,10 @@ loop-holds c = let a = c .args in (search needs, search needs, below-start _ (a 
 element-copy-out-if1 : tie.Need-element-copy-out-if1 Inv-loop μ-loop
 element-copy-out-if1 c = search needs
 
-cast-is-detected : tie.Need-cast-is-detected Inv-loop μ-loop
-cast-is-detected c = search needs
-
 is-detected-requires : tie.Need-is-detected-requires Inv-loop μ-loop
 is-detected-requires c κs =
-    let l = c .before .before .before in
-    ((omega arith, l .before .pre .long), l .before .pre .bounded (l .loop .p) (l .loop .inv .0) (omega arith))
+    let f = c .before .before .before .before .pre in
+    ((omega arith, f .long), (f .within, (f .coefficient, f .tolerance)))
 
 element-write-flags : tie.Need-element-write-flags Inv-loop μ-loop
 element-write-flags c = search needs
@@ -66,7 +63,6 @@ flag-detected-spec =
     μ-loop
     loop-holds
     element-copy-out-if1
-    cast-is-detected
     is-detected-requires
     element-write-flags
     add-p

@@ -1,45 +1,106 @@
--- `detection::sums::is_detected` meets its contract. Assumes nothing.
-use mathlib.Core.Path.{_≡_}
 use mir.Syntax.{w64}
 use mir.ValLaws.{toZ-ofZ}
+use native.Mathlib.Omega.{arith}
+use Rattle.detection.specs.Tables.{coverPlace, cellOf, aheadAt}
+use Rattle.detection.proofs.FlagLaws.{no-sales}
 use borrow.Author.Needs.{needs}
 use Rattle.detection.proofs.sums.is_detected.Statement.{statement}
 use Rattle.detection.proofs.sums.is_detected.Tie as tie
+use Rattle.detection.proofs.sums.is_detected.Reads as reads
+use Rattle.detection.proofs.sums.is_detected.Lts as lts
+use Rattle.numbers.proofs.larger.Reads as larger-reads
+use Rattle.position.proofs.detected.Reads as detected-reads
+use Rattle.tally.proofs.balances.balanced.Reads as balanced-reads
 
-sums-of-requires : tie.Need-sums-of-requires
-sums-of-requires c κs = search needs
+-- the sales and the larger of two cells are read
+abbrev start : tie.After-larger → tie.Start
+start c = c .before .before .before .before .before .before
 
-mul-bought : tie.Need-mul-bought
-mul-bought c = search needs
+mul-at : tie.Need-mul-at
+mul-at c = search needs
 
-add-bought : tie.Need-add-bought
-add-bought c = search needs
+add-sales : tie.Need-add-sales
+add-sales c = search needs
 
-mul-bought-2 : tie.Need-mul-bought-2
-mul-bought-2 c = search needs
+mul-sales : tie.Need-mul-sales
+mul-sales c = search needs
 
-element-copy-out-bought : tie.Need-element-copy-out-bought
-element-copy-out-bought c = search needs
+element-copy-out-sales : tie.Need-element-copy-out-sales
+element-copy-out-sales c = search needs
 
-day-ahead-of-requires : tie.Need-day-ahead-of-requires
-day-ahead-of-requires c κs = rw (c .before .sums-of .ensures) (c .before .before .pre .1)
+returns : tie.Need-returns
+returns c = search no-sales
+
+add-cover : tie.Need-add-cover
+add-cover c = search needs
+
+mul-cover : tie.Need-mul-cover
+mul-cover c = search needs
+
+element-copy-out-cover : tie.Need-element-copy-out-cover
+element-copy-out-cover c = search needs
+
+add-larger : tie.Need-add-larger
+add-larger c = search needs
+
+mul-larger : tie.Need-mul-larger
+mul-larger c = search needs
+
+element-copy-out-larger : tie.Need-element-copy-out-larger
+element-copy-out-larger c = search needs
+
+add-larger-2 : tie.Need-add-larger-2
+add-larger-2 c = search needs
+
+mul-larger-2 : tie.Need-mul-larger-2
+mul-larger-2 c = search needs
+
+element-copy-out-larger-2 : tie.Need-element-copy-out-larger-2
+element-copy-out-larger-2 c = search needs
+
+larger-requires : tie.Need-larger-requires
+larger-requires c κs = search needs
+
+add-cover-2 : tie.Need-add-cover-2
+add-cover-2 c =
+    let w = start c .pre .1 .0 in
+    omega (arith, c .larger .ensures, w .at-most (cellOf (start c .args .party) coverPlace), w .at-most (cellOf (start c .args .party) 2), w .at-most (cellOf (start c .args .party) 3))
+
+balanced-requires : tie.Need-balanced-requires
+balanced-requires c κs =
+    let w = start c .pre .1 .0 in
+    let p = start c .args .party in
+    omega (arith, c .larger .ensures, w .at-most (cellOf p 0), w .at-most (cellOf p coverPlace), w .at-most (cellOf p 2), w .at-most (cellOf p 3))
 
 detected-requires : tie.Need-detected-requires
 detected-requires c κs = search needs
 
-returns : tie.Need-returns
-returns c =
-    rw (c .detected .ensures, toZ-ofZ w64 (c .before .day-ahead-of .result) (record { sfits = c .before .day-ahead-of .ok }), c .before .day-ahead-of .ensures, c .before .before .before .sums-of .ensures)
+returns-2 : tie.Need-returns-2
+unfolding aheadAt
+returns-2 c =
+    let b = c .before in
+    rw (c .detected .ensures, toZ-ofZ w64 (b .balanced .result) (record { sfits = b .balanced .ok }), b .balanced .ensures, b .before .larger .ensures)
 
 pub is-detected-spec : {M : Type 1} → statement M
 is-detected-spec =
     tie.close
     (tie.spec
-    sums-of-requires
-    mul-bought
-    add-bought
-    mul-bought-2
-    element-copy-out-bought
-    day-ahead-of-requires
+    mul-at
+    add-sales
+    mul-sales
+    element-copy-out-sales
+    returns
+    add-cover
+    mul-cover
+    element-copy-out-cover
+    add-larger
+    mul-larger
+    element-copy-out-larger
+    add-larger-2
+    mul-larger-2
+    element-copy-out-larger-2
+    larger-requires
+    add-cover-2
+    balanced-requires
     detected-requires
-    returns)
+    returns-2)

@@ -1,4 +1,4 @@
--- `control::passes::count_flags` meets its contract. The loop's invariant: the flags passed are counted. Assumes nothing.
+-- `detection::parties::count` meets its contract. The loop's invariant: the flags passed are counted. Assumes nothing.
 use mathlib.Core.Path.{_≡_, refl, sym, ap, _∙_}
 use mathlib.Core.Logic.{⊎-elim}
 use Prim.Native.Nat.{_+_, _-_, _≤_}
@@ -7,10 +7,10 @@ use native.Mathlib.Omega.{arith}
 use Rattle.numbers.specs.Sums.{sum, countBelow}
 use Rattle.numbers.proofs.SumLaws.{countBelow-le, countBelow-step}
 use Rattle.rules.specs.Control.{detectedParties}
 use Rattle.detection.specs.Tables.{flagged}
 use borrow.Author.Needs.{needs}
-use Rattle.control.proofs.passes.count_flags.Statement.{statement}
-use Rattle.control.proofs.passes.count_flags.Tie as tie
+use Rattle.detection.proofs.parties.count.Statement.{statement}
+use Rattle.detection.proofs.parties.count.Tie as tie
 
 abbrev Inv-loop : tie.InvT-loop
 Inv-loop flags n₀ p₀ n p = (p ≤ 1000) × (n ≡ countBelow p (flagged flags))
@@ -54,8 +54,8 @@ returns c =
     let e : l .loop .p ≡ 1000 = omega arith in
     l .loop .inv .1 ∙ ap (λ p. countBelow p f) e
 
-pub count-flags-spec : {M : Type 1} → statement M
-count-flags-spec =
+pub count-spec : {M : Type 1} → statement M
+count-spec =
     tie.close
     (tie.spec
     Inv-loop

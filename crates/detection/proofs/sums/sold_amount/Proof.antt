@@ -1,0 +1,15 @@
+use Rattle.detection.proofs.TableLaws.{sold-yes, sold-no}
+use borrow.Author.Needs.{needs}
+use Rattle.detection.proofs.sums.sold_amount.Statement.{statement}
+use Rattle.detection.proofs.sums.sold_amount.Tie as tie
+use Rattle.detection.proofs.sums.sold_amount.Reads as reads
+use Rattle.detection.proofs.sums.sold_amount.Lts as lts
+
+returns : tie.Need-returns
+returns c = search sold-yes
+
+returns-2 : tie.Need-returns-2
+returns-2 c = search sold-no
+
+pub sold-amount-spec : {M : Type 1} → statement M
+sold-amount-spec = tie.close (tie.spec returns returns-2)
