@@ -1,25 +1,22 @@
 -- Laws of the control of a day, on the records and on the words that hold them. Assumes nothing.
 use mathlib.Core.Path.{_≡_, refl, sym, ap, ap₂, subst, _∙_}
-use mathlib.Core.Logic.{_⊎_, inl, inr, _≢_}
-use mathlib.Core.Bool.{Bool, true, false, not, cond, _&&_, false≢true}
-use mathlib.Core.List.{List, [], _∷_, _++_, map}
-use Prim.Native.Nat.{ℕ, zero, suc, _+_, _*_, _≤_, _<_}
+use mathlib.Core.Logic.{_⊎_, inl, inr}
+use mathlib.Core.Bool.{true, cond}
+use mathlib.Core.List.{List, [], _∷_}
+use Prim.Native.Nat.{ℕ, zero, suc, _+_, _*_, _<_}
 use native.Mathlib.Nat.{add-zero}
 use native.Mathlib.Omega.{arith}
-use lib.Dec.{eqb, leb, ltb}
 use lib.ListN.{length, getD, drop, List·getD-append}
 use lib.Seq.{getD-append-seam}
-use borrow.Author.Tests.{eqb-true, leb-true, ltb-true, eq-eqb, le-leb, not-true}
+use borrow.Author.Tests.{eq-eqb, le-leb}
 use Rattle.numbers.specs.Sums.{total, count}
-use Rattle.numbers.specs.Tests.{all, any, every}
-use Rattle.numbers.specs.Causes.{unless}
-use Rattle.numbers.proofs.TestLaws.{bool-cases, and-split, and-join, or-right, every-holds, all-append, any-append}
+use Rattle.numbers.specs.Tests.{any, every}
+use Rattle.numbers.proofs.TestLaws.{bool-cases, or-right, any-append}
 use Rattle.numbers.proofs.SumLaws.{total-append, total-map, total-cong}
-use Rattle.numbers.proofs.CauseLaws.{clear-all, unless-zero, done-else}
-use Rattle.rules.specs.Entry.{Record, noRecord, withStatus, statusWhere, key, isCancelled, isMark, cancelled}
-use Rattle.rules.specs.Words.{isBook, entries, countOf, coefficientOf, toleranceOf, roomIn, usedWords, laid}
+use Rattle.rules.specs.Entry.{Record, noRecord, withStatus, statusWhere, key, isCancelled, cancelled}
+use Rattle.rules.specs.Words.{entries, countOf, coefficientOf, toleranceOf, usedWords, laid}
 use Rattle.rules.specs.Book.{isClosed, isMarkOf, entryAt}
-use Rattle.rules.specs.Balance.{Volume, counted, countedTo, sumOf, boughtBy, tallyOf, balanceOf, balance, volumeTypes}
+use Rattle.rules.specs.Balance.{Volume, counted, countedTo, sumOf, boughtBy, tallyOf, balanceOf, balance}
 use Rattle.rules.specs.Compared.{Each}
 use Rattle.rules.specs.Control.{Parties, isToCancel, cancelOf, firstPass, secondPass, afterFirst, afterSecond, markOf, controlledRecords, cancelledEntries}
 use Rattle.rules.specs.Calls.{control, changed, causeOf, wordsAfter}

@@ -20,8 +20,8 @@ use Rattle.rules.proofs.SumOrder.{forTests}
 use Rattle.rules.proofs.WordLaws.{book-laid}
 use Rattle.cells.specs.Cells.{over}
 use Rattle.detection.specs.Tables.{isSaleType, ofPass}
-use Rattle.detection.proofs.FlagLaws.{not-above}
-use Rattle.detection.proofs.PairLaws.{any-none}
+use Rattle.detection.proofs.BelowLaws.{not-above}
+use Rattle.repeated_pairs.proofs.PairLaws.{any-none}
 use Rattle.control.specs.Passes.{cancelledWords, passOf, nobody, isCancelledOn, isSaleOn, isSought, seen}
 use Rattle.control.specs.declared.passes.Passed.{Passed}
 

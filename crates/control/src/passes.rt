@@ -8,11 +8,12 @@ ghost use Rattle.rules.specs.Entry.{keyOf, markType, lastParty, lastDay, record
 ghost use Rattle.rules.specs.Words.{isBook, entries, countOf, roomIn};
 ghost use Rattle.rules.specs.Stores.{posted};
 ghost use Rattle.rules.specs.Control.{isToCancel};
-ghost use Rattle.detection.specs.Tables.{flagged, ofPass};
+ghost use Rattle.repeated_pairs.specs.Flags.{flagged};
+ghost use Rattle.detection.specs.Tables.{ofPass};
 ghost use Rattle.control.specs.Passes.{cancelledWords, passOf};
 use crate::nobody;
-use detection::parties;
-use detection::parties::Flags;
+use repeated_pairs::parties;
+use repeated_pairs::parties::Flags;
 use rules::Entry;
 use rules::Key;
 use rules::bounds::NUMBERS;

@@ -16,8 +16,9 @@ use Rattle.rules.proofs.WordLaws.{book-facts, within-true}
 use Rattle.cells.specs.Cells.{AtMost}
 use Rattle.cells.proofs.ScanLaws.{table-to}
 use Rattle.tally.specs.Bounded.{mostSum}
-use Rattle.detection.specs.Tables.{flagged, noFlags, tableCells, tableOf, detectedAmong, checked, ofPass, Flaggable}
-use Rattle.detection.proofs.FlagLaws.{no-party}
+use Rattle.repeated_pairs.specs.Flags.{flagged, noFlags}
+use Rattle.detection.specs.Tables.{tableCells, tableOf, detectedAmong, checked, ofPass, Flaggable}
+use Rattle.detection.proofs.BelowLaws.{no-party}
 use Rattle.detection.proofs.TableLaws.{day-limited, length-table, ahead-is}
 
 module _ (ws : List ℕ) (b : isBook ws ≡ true) (d : ℕ) where

@@ -1,6 +1,4 @@
 pub mod TableLaws
-pub mod FlagLaws
+pub mod BelowLaws
 pub mod DetectLaws
-pub mod BitLaws
-pub mod PairLaws
 pub mod SecondLaws

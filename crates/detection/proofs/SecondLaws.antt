@@ -10,10 +10,13 @@ use Rattle.rules.specs.Entry.{Record, partyPlaces}
 use Rattle.rules.specs.Words.{isBook, entries, coefficientOf, toleranceOf}
 use Rattle.rules.specs.Control.{Parties, detectedIn, isRepeatedBuyer, detectedParties}
 use Rattle.rules.proofs.WordLaws.{book-facts}
-use Rattle.detection.specs.Tables.{flagged, noFlags, checked, ofPass, likelyBuyer, likelyAmong}
-use Rattle.detection.proofs.FlagLaws.{no-flag, no-party, count-none}
+use Rattle.repeated_pairs.specs.Flags.{flagged, noFlags}
+use Rattle.repeated_pairs.specs.Pairs.{likelyAmong}
+use Rattle.detection.specs.Tables.{checked, ofPass}
+use Rattle.repeated_pairs.proofs.FlagLaws.{no-flag, count-none}
+use Rattle.detection.proofs.BelowLaws.{no-party}
 use Rattle.detection.proofs.DetectLaws.{asked}
-use Rattle.detection.proofs.PairLaws.{repeated-likely, likely-repeated}
+use Rattle.repeated_pairs.proofs.PairLaws.{repeated-likely, likely-repeated}
 
 module _ (ws : List ℕ) (b : isBook ws ≡ true) (d : ℕ) where
   abbrev rs : List Record

@@ -1,7 +1,7 @@
 -- What the cells of the day's table hold: of each party what its day-ahead balance reads. Assumes nothing.
 use mathlib.Core.Path.{_≡_, refl, sym, ap, ap₂, _∙_}
 use mathlib.Core.Logic.{_⊎_, inl, inr}
-use mathlib.Core.Bool.{Bool, true, false, not, cond, _&&_, _||_, true≢false, false≢true}
+use mathlib.Core.Bool.{Bool, true, false, not, cond, _&&_, _||_, true≢false}
 use mathlib.Core.List.{List, [], _∷_}
 use Prim.Native.Nat.{ℕ, zero, suc, _+_, _*_, _/_, _%_, _^_, _≤_, _<_, max, zero-le}
 use native.Mathlib.Nat.{add-zero, le-refl}
@@ -10,10 +10,10 @@ use lib.Dec.{eqb, ltb}
 use lib.IntN.{subℕ}
 use lib.ListN.{length, getD, set}
 use lib.Seq.{set-getD}
-use borrow.Author.Tests.{eqb-true, eqb-false, eq-eqb, ne-eqb, ltb-true, lt-ltb, not-true}
+use borrow.Author.Tests.{eqb-true, eqb-false, eq-eqb, ne-eqb, ltb-true, not-true}
 use Rattle.numbers.specs.Sums.{total}
 use Rattle.numbers.specs.Tests.{every, all, any, allBelow}
-use Rattle.numbers.proofs.TestLaws.{bool-cases, and-split, and-join, or-cases, or-left, or-right, every-holds, holds-every, allBelow-at, below-or-above}
+use Rattle.numbers.proofs.TestLaws.{bool-cases, and-split, and-join, or-cases, or-left, or-right, every-holds, allBelow-at, below-or-above}
 use Rattle.numbers.proofs.SumLaws.{cond-limit, total-cong, total-plus, total-none, total-exchange}
 use Rattle.rules.specs.Entry.{Label, Record, key, legal, isExport, isVolume, bilateral, standing, lastParty, mostVolume}
 use Rattle.rules.specs.Balance.{dayAhead, saleTypes, coverTypes, counted, countedTo, sumOf, boughtBy, tallyOf, saleSide, coverSide, acquired, programUsed, balanceOf, balance}
@@ -23,7 +23,7 @@ use Rattle.rules.proofs.SumOrder.{forTests, toTests, counts-for, counts-to}
 use Rattle.cells.specs.Cells.{oneIf, addTo, addToEach, added, goesTo, inCell, apart, Limited, AtMost}
 use Rattle.cells.proofs.CellLaws.{same-test, to-first, to-later, to-either, to-none, goes-one, one-goes, length-filled, cell-sum}
 use Rattle.tally.specs.Bounded.{mostSum}
-use Rattle.detection.specs.Tables.{lastType, isSaleType, isCoverType, isReadType, partyCells, tableCells, coverPlace, sideOf, cellOf, isRead, ownAmount, dayCells, tableOf, aheadAt}
+use Rattle.detection.specs.Tables.{lastType, isCoverType, isReadType, partyCells, tableCells, coverPlace, sideOf, cellOf, isRead, ownAmount, dayCells, tableOf, aheadAt}
 
 -- two tests alike, as a test
 abbrev same : Bool → Bool → Bool

@@ -1,29 +1,20 @@
--- What the scans of a control make of the entries: a table of sums, flags of parties and bits of pairs.
+-- What the scan of a control makes of the entries: of each party what its day-ahead balance reads, and who is detected by it.
 -- Only the contracts of internal functions cite these; the laws tie them to rules/specs/Control.
 use mathlib.Core.Path.{_≡_}
-use mathlib.Core.Bool.{Bool, true, false, not, cond, _&&_, _||_}
+use mathlib.Core.Bool.{Bool, true, not, cond, _&&_, _||_}
 use mathlib.Core.List.{List, [], _∷_}
-use Prim.Native.Nat.{ℕ, _+_, _*_, _/_, _%_, _^_, _≤_, max}
-use lib.Bits.{bitOr}
-use lib.Dec.{eqb, leb, ltb}
+use Prim.Native.Nat.{ℕ, _+_, _*_, _≤_, max}
+use lib.Dec.{eqb}
 use lib.IntN.{ℤ, subℕ}
-use lib.ListN.{length, getD, set, replicate}
-use Rattle.numbers.specs.Tests.{every, any}
-use Rattle.calendar.specs.Calendar.{monthOf}
-use Rattle.rules.specs.Entry.{Label, Record, key, isCancelled, isExport, bilateral, updatedProgram, standing, partyOk, lastParty, partyPlaces, lastDay}
+use lib.ListN.{length, getD}
+use Rattle.numbers.specs.Tests.{every}
+use Rattle.rules.specs.Entry.{Label, Record, key, isExport, bilateral, updatedProgram, standing, partyOk, lastParty}
 use Rattle.rules.specs.Words.{entries, coefficientOf, toleranceOf, mostCoefficient, mostTolerance}
 use Rattle.rules.specs.Balance.{isDetected}
 use Rattle.rules.specs.Control.{Parties, detectedIn, isRepeatedBuyer}
-use Rattle.cells.specs.Cells.{Cells, oneIf, over, blank, filled, AtMost}
+use Rattle.cells.specs.Cells.{Cells, oneIf, filled, AtMost}
 use Rattle.tally.specs.Bounded.{mostSum}
-use Rattle.detection.specs.declared.pairs.Period.{Period}
-
--- the parties whose flag is set
-abbrev pub flagged : List Bool → Parties
-flagged flags p = getD flags p false
-
-unfoldable pub noFlags : List Bool
-noFlags = replicate partyPlaces false
+use Rattle.repeated_pairs.specs.Flags.{flagged, noFlags}
 
 -- the largest number of a type
 abbrev pub lastType : ℕ
@@ -98,72 +89,3 @@ pub record Flaggable (cells : List ℕ) (R TM : ℕ) (flags : List Bool) : Type 
   pub coefficient : R ≤ mostCoefficient
   pub tolerance : TM ≤ mostTolerance
   pub none : flags ≡ noFlags
-
--- the days of the month of a day are those from the first to the next
-pub record IsPeriod (d : ℕ) (p : Period) : Type 0 where
-  pub same : (e : ℕ) → e ≤ lastDay → leb (p .first) e && ltb e (p .next) ≡ eqb (monthOf e) (monthOf d)
-
--- a cancelled entry of another day of the month
-unfoldable pub isOther : ℕ → Record → Bool
-isOther d r = every (isCancelled r ∷ not (eqb (key r .day) d) ∷ eqb (monthOf (key r .day)) (monthOf d) ∷ [])
-
--- a cancelled entry has a seller and a buyer
-pub record Paired (r : Record) : Type 0 where
-  pub seller-above : 1 ≤ key r .party
-  pub seller : key r .party ≤ lastParty
-  pub buyer-above : 1 ≤ key r .counterparty
-  pub buyer : key r .counterparty ≤ lastParty
-
--- the bit of a pair: 1,024 bits a seller, one a buyer; or, of few bits, one that other pairs have too
-abbrev pub pairOf : Record → ℕ
-pairOf r = 1024 * key r .party + key r .counterparty
-
-abbrev pub bitOf : Bool → Record → ℕ
-bitOf few r = cond few (pairOf r % 4096) (pairOf r)
-
--- the words that hold the bits, 64 to a word
-abbrev pub bitWords : Bool → ℕ
-bitWords few = cond few 64 16000
-
-unfoldable pub bitAt : List ℕ → ℕ → Bool
-bitAt words k = eqb (getD words (k / 64) 0 / 2 ^ (k % 64) % 2) 1
-
-unfoldable pub withBit : List ℕ → ℕ → List ℕ
-withBit words k = set words (k / 64) (bitOr (getD words (k / 64) 0) (2 ^ (k % 64)))
-
-abbrev pub withFlag : List Bool → ℕ → List Bool
-withFlag flags k = set flags k true
-
--- the place of an entry is marked where a test holds
-module _ {A : Type 0} where
-  unfoldable pub marked : (List A → ℕ → List A) → (Record → Bool) → (Record → ℕ) → Record → List A → List A
-  marked mark test place r table = cond (test r) (mark table (place r)) table
-
-unfoldable pub pairMarked : Bool → ℕ → Record → List ℕ → List ℕ
-pairMarked few d = marked withBit (isOther d) (bitOf few)
-
-unfoldable pub pairsOf : Bool → ℕ → List Record → List ℕ
-pairsOf few d rs = over (pairMarked few d) rs (blank (bitWords few))
-
--- a cancelled entry of the day, of a buyer among some, whose bit is marked
-unfoldable pub isHit : Bool → ℕ → List Bool → List ℕ → Record → Bool
-isHit few d among pairs r =
-    every (isCancelled r ∷ eqb (key r .day) d ∷ flagged among (key r .counterparty) ∷ bitAt pairs (bitOf few r) ∷ [])
-
-unfoldable pub buyerMarked : Bool → ℕ → List Bool → List ℕ → Record → List Bool → List Bool
-buyerMarked few d among pairs = marked withFlag (isHit few d among pairs) (λ r. key r .counterparty)
-
-unfoldable pub buyersOf : Bool → ℕ → List Bool → List ℕ → List Record → List Bool
-buyersOf few d among pairs rs = over (buyerMarked few d among pairs) rs noFlags
-
--- a cancelled entry of another day of the month with the bit of this one
-abbrev pub sharesBit : Bool → ℕ → Record → Record → Bool
-sharesBit few d r s = isOther d s && eqb (bitOf few s) (bitOf few r)
-
--- the buyers among some with such a bit; of all bits those of repeated pairs, of few bits those and perhaps others
-unfoldable pub likelyBuyer : Bool → ℕ → List Record → Parties
-likelyBuyer few d rs p =
-    any (λ r. every (isCancelled r ∷ eqb (key r .day) d ∷ eqb (key r .counterparty) p ∷ any (sharesBit few d r) rs ∷ [])) rs
-
-unfoldable pub likelyAmong : Bool → ℕ → List Record → List Bool → Parties
-likelyAmong few d rs among p = flagged among p && likelyBuyer few d rs p

@@ -2,13 +2,12 @@
 ghost use mathlib.Core.Path.{_≡_};
 ghost use mathlib.Core.Bool.{true, false};
 ghost use Rattle.rules.specs.Words.{isBook};
-ghost use Rattle.detection.specs.Tables.{flagged, noFlags, ofPass};
-use parties::Flags;
+ghost use Rattle.repeated_pairs.specs.Flags.{flagged, noFlags};
+ghost use Rattle.detection.specs.Tables.{ofPass};
+use repeated_pairs::parties;
+use repeated_pairs::parties::Flags;
 use rules::bounds::NUMBERS;
 
-mod bits;
-mod pairs;
-pub mod parties;
 pub mod sums;
 
 // The first pass: every party that is detected.
@@ -30,7 +29,7 @@ fn flag_second(book: &[u32], day: u32, flags: &mut Flags)
 {
     let everyone = [true; NUMBERS];
     let mut likely = [false; NUMBERS];
-    pairs::flag_likely(book, day, &everyone, &mut likely);
+    repeated_pairs::flag_likely(book, day, &everyone, &mut likely);
     if parties::count(&likely) == 0 {
         return;
     }
@@ -39,7 +38,7 @@ fn flag_second(book: &[u32], day: u32, flags: &mut Flags)
     if parties::count(&detected) == 0 {
         return;
     }
-    pairs::flag_repeated(book, day, &detected, flags);
+    repeated_pairs::flag_repeated(book, day, &detected, flags);
 }
 
 // Flags the parties of a pass: those detected, in the second pass among the buyers of repeated pairs.

@@ -10,8 +10,9 @@ ghost use Rattle.rules.specs.Words.{isBook, entries, mostCoefficient, mostToler
 ghost use Rattle.rules.specs.Balance.{isDetected};
 ghost use Rattle.cells.specs.Cells.{addTo, added, blank, AtMost};
 ghost use Rattle.tally.specs.Bounded.{mostSum};
-ghost use Rattle.detection.specs.Tables.{flagged, noFlags, isSaleType, isReadType, lastType, sideOf, isRead, ownAmount, tableCells, dayCells, tableOf, aheadAt, Flaggable, detectedAmong, checked};
-use crate::parties::Flags;
+ghost use Rattle.repeated_pairs.specs.Flags.{flagged, noFlags};
+ghost use Rattle.detection.specs.Tables.{isSaleType, isReadType, lastType, sideOf, isRead, ownAmount, tableCells, dayCells, tableOf, aheadAt, Flaggable, detectedAmong, checked};
+use repeated_pairs::parties::Flags;
 use rules::Entry;
 use rules::bounds::NUMBERS;
 use rules::layout::BILATERAL;

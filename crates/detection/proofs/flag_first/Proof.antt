@@ -1,11 +1,9 @@
+-- `detection::flag_first` meets its contract. Assumes nothing.
 use mathlib.Core.Path.{_∙_}
 use Rattle.detection.proofs.DetectLaws.{all-asked}
 use borrow.Author.Needs.{needs}
 use Rattle.detection.proofs.flag_first.Statement.{statement}
 use Rattle.detection.proofs.flag_first.Tie as tie
-use Rattle.detection.proofs.flag_first.Reads as reads
-use Rattle.detection.proofs.flag_first.Lts as lts
-use Rattle.detection.proofs.sums.detect.Reads as detect-reads
 
 detect-requires : tie.Need-detect-requires
 detect-requires c κs = search needs

@@ -1,10 +1,7 @@
+-- `detection::flag_parties` meets its contract. Assumes nothing.
 use borrow.Author.Needs.{needs}
 use Rattle.detection.proofs.flag_parties.Statement.{statement}
 use Rattle.detection.proofs.flag_parties.Tie as tie
-use Rattle.detection.proofs.flag_parties.Reads as reads
-use Rattle.detection.proofs.flag_parties.Lts as lts
-use Rattle.detection.proofs.flag_first.Reads as flag-first-reads
-use Rattle.detection.proofs.flag_second.Reads as flag-second-reads
 
 flag-second-requires : tie.Need-flag-second-requires
 flag-second-requires c κs = search needs

@@ -1,14 +1,9 @@
-use Rattle.detection.specs.Tables.{noFlags}
+-- `detection::flag_second` meets its contract. Assumes nothing.
+use Rattle.repeated_pairs.specs.Flags.{noFlags}
 use Rattle.detection.proofs.SecondLaws.{none-likely, none-detected, all-found}
 use borrow.Author.Needs.{needs}
 use Rattle.detection.proofs.flag_second.Statement.{statement}
 use Rattle.detection.proofs.flag_second.Tie as tie
-use Rattle.detection.proofs.flag_second.Reads as reads
-use Rattle.detection.proofs.flag_second.Lts as lts
-use Rattle.detection.proofs.pairs.flag_likely.Reads as flag-likely-reads
-use Rattle.detection.proofs.pairs.flag_repeated.Reads as flag-repeated-reads
-use Rattle.detection.proofs.parties.count.Reads as count-reads
-use Rattle.detection.proofs.sums.detect.Reads as detect-reads
 
 flag-likely-requires : tie.Need-flag-likely-requires
 unfolding noFlags

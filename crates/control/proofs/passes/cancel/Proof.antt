@@ -10,9 +10,9 @@ use Rattle.rules.specs.Words.{countOf, entries}
 use Rattle.rules.specs.Control.{isToCancel}
 use Rattle.rules.proofs.WordLaws.{book-facts}
 use Rattle.words.proofs.BookCode.{Placed, book-long}
-use Rattle.detection.specs.Tables.{flagged}
-use Rattle.detection.proofs.PairLaws.{one-most}
 use Rattle.cells.proofs.ScanLaws.{scan-few, scan-end}
+use Rattle.repeated_pairs.specs.Flags.{flagged}
+use Rattle.repeated_pairs.proofs.PairLaws.{one-most}
 use Rattle.control.proofs.CancelLaws.{Through, through-none, through-all, through-length, through-placed, through-party, through-read, through-cancelled, through-kept, count-more, count-few}
 use borrow.Author.Needs.{needs}
 use Rattle.control.proofs.passes.cancel.Statement.{statement}

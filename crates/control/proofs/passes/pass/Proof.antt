@@ -1,6 +1,6 @@
 -- `control::passes::pass` meets its contract. Assumes nothing.
 use mathlib.Core.Path.{refl}
-use Rattle.detection.specs.Tables.{noFlags}
+use Rattle.repeated_pairs.specs.Flags.{noFlags}
 use Rattle.control.proofs.RunLaws.{pass-counts, pass-words}
 use borrow.Author.Needs.{needs}
 use Rattle.control.proofs.passes.pass.Statement.{statement}

@@ -1,15 +1,10 @@
+-- `detection::sums::add_entry` meets its contract. Assumes nothing.
 use native.Mathlib.Omega.{arith}
 use Rattle.rules.specs.Entry.{key, recordIn}
 use Rattle.detection.proofs.TableLaws.{type-most, side-few, Adds, adds, add-fits, add-fits-again, added-is}
 use borrow.Author.Needs.{needs}
 use Rattle.detection.proofs.sums.add_entry.Statement.{statement}
 use Rattle.detection.proofs.sums.add_entry.Tie as tie
-use Rattle.detection.proofs.sums.add_entry.Reads as reads
-use Rattle.detection.proofs.sums.add_entry.Lts as lts
-use Rattle.detection.proofs.sums.add_to.Reads as add-to-reads
-use Rattle.detection.proofs.sums.read_amount.Reads as read-amount-reads
-use Rattle.detection.proofs.sums.side_of.Reads as side-of-reads
-use Rattle.detection.proofs.sums.sold_amount.Reads as sold-amount-reads
 
 -- with both amounts: what they and the entry's figures stay within
 abbrev start : tie.After-sold-amount → tie.Start

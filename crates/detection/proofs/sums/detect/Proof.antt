@@ -1,16 +1,10 @@
+-- `detection::sums::detect` meets its contract. Assumes nothing.
 use mathlib.Core.Path.{refl, _∙_}
 use Rattle.words.proofs.BookCode.{book-long}
 use Rattle.cells.specs.Cells.{blank}
 use Rattle.detection.proofs.DetectLaws.{flaggable, table-detects}
-use borrow.Author.Needs.{needs}
 use Rattle.detection.proofs.sums.detect.Statement.{statement}
 use Rattle.detection.proofs.sums.detect.Tie as tie
-use Rattle.detection.proofs.sums.detect.Reads as reads
-use Rattle.detection.proofs.sums.detect.Lts as lts
-use Rattle.detection.proofs.sums.fill.Reads as fill-reads
-use Rattle.detection.proofs.sums.flag_detected.Reads as flag-detected-reads
-use Rattle.words.proofs.coefficient_of.Reads as coefficient-of-reads
-use Rattle.words.proofs.tolerance_of.Reads as tolerance-of-reads
 
 fill-requires : tie.Need-fill-requires
 unfolding blank

@@ -1,9 +1,9 @@
 -- `detection::sums::fill` meets its contract. The loop's invariant: the table is that of the entries passed. Assumes nothing.
 use Prim.Native.Nat.{_-_}
 use Rattle.cells.specs.Cells.{added, blank, filled}
+use Rattle.cells.proofs.ScanLaws.{Scanned, scan, scan-below}
 use Rattle.detection.specs.Tables.{dayCells, tableCells, tableOf}
 use Rattle.detection.proofs.TableLaws.{day-limited}
-use Rattle.cells.proofs.ScanLaws.{Scanned, scan, scan-below}
 use borrow.Author.Needs.{needs}
 use Rattle.detection.proofs.sums.fill.Statement.{statement}
 use Rattle.detection.proofs.sums.fill.Tie as tie

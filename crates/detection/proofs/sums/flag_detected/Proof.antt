@@ -1,10 +1,10 @@
 -- `detection::sums::flag_detected` meets its contract. The loop's invariant: the parties passed have their flags. Assumes nothing.
-use mathlib.Core.Path.{_≡_, refl, sym, _∙_}
-use Prim.Native.Nat.{ℕ, _+_, _-_, _≤_}
 use mathlib.Core.Logic.{⊎-elim}
+use Prim.Native.Nat.{_-_, _≤_}
 use native.Mathlib.Omega.{arith}
-use Rattle.detection.specs.Tables.{flagged, noFlags, detectedAmong}
-use Rattle.detection.proofs.FlagLaws.{Below, below-start, below-set, below-skip, below-end, detected-none, detected-past, detected-asked, detected-not-asked}
+use Rattle.repeated_pairs.proofs.FlagLaws.{Below, below-start, below-set, below-skip, below-end}
+use Rattle.detection.specs.Tables.{detectedAmong}
+use Rattle.detection.proofs.BelowLaws.{detected-none, detected-past, detected-asked, detected-not-asked}
 use borrow.Author.Needs.{needs}
 use Rattle.detection.proofs.sums.flag_detected.Statement.{statement}
 use Rattle.detection.proofs.sums.flag_detected.Tie as tie

@@ -1,16 +1,12 @@
+-- `detection::sums::is_detected` meets its contract. Assumes nothing.
+use native.Mathlib.Omega.{arith}
 use mir.Syntax.{w64}
 use mir.ValLaws.{toZ-ofZ}
-use native.Mathlib.Omega.{arith}
 use Rattle.detection.specs.Tables.{coverPlace, cellOf, aheadAt}
-use Rattle.detection.proofs.FlagLaws.{no-sales}
+use Rattle.detection.proofs.BelowLaws.{no-sales}
 use borrow.Author.Needs.{needs}
 use Rattle.detection.proofs.sums.is_detected.Statement.{statement}
 use Rattle.detection.proofs.sums.is_detected.Tie as tie
-use Rattle.detection.proofs.sums.is_detected.Reads as reads
-use Rattle.detection.proofs.sums.is_detected.Lts as lts
-use Rattle.numbers.proofs.larger.Reads as larger-reads
-use Rattle.position.proofs.detected.Reads as detected-reads
-use Rattle.tally.proofs.balances.balanced.Reads as balanced-reads
 
 -- the sales and the larger of two cells are read
 abbrev start : tie.After-larger → tie.Start

@@ -1,10 +1,8 @@
+-- `detection::sums::is_read` meets its contract. Assumes nothing.
 use Rattle.detection.specs.Tables.{isRead}
 use borrow.Author.Needs.{needs}
 use Rattle.detection.proofs.sums.is_read.Statement.{statement}
 use Rattle.detection.proofs.sums.is_read.Tie as tie
-use Rattle.detection.proofs.sums.is_read.Reads as reads
-use Rattle.detection.proofs.sums.is_read.Lts as lts
-use Rattle.detection.proofs.sums.is_read_type.Reads as is-read-type-reads
 
 is-read-type-requires : tie.Need-is-read-type-requires
 is-read-type-requires c κs = search needs

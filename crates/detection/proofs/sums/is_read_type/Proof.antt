@@ -1,9 +1,8 @@
+-- `detection::sums::is_read_type` meets its contract. Assumes nothing.
 use Rattle.detection.proofs.TableLaws.{read-bit}
 use borrow.Author.Needs.{needs}
 use Rattle.detection.proofs.sums.is_read_type.Statement.{statement}
 use Rattle.detection.proofs.sums.is_read_type.Tie as tie
-use Rattle.detection.proofs.sums.is_read_type.Reads as reads
-use Rattle.detection.proofs.sums.is_read_type.Lts as lts
 
 shr-result : tie.Need-shr-result
 shr-result c = search needs

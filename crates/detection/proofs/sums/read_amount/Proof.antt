@@ -1,10 +1,8 @@
+-- `detection::sums::read_amount` meets its contract. Assumes nothing.
 use Rattle.detection.proofs.TableLaws.{own-read, own-not}
 use borrow.Author.Needs.{needs}
 use Rattle.detection.proofs.sums.read_amount.Statement.{statement}
 use Rattle.detection.proofs.sums.read_amount.Tie as tie
-use Rattle.detection.proofs.sums.read_amount.Reads as reads
-use Rattle.detection.proofs.sums.read_amount.Lts as lts
-use Rattle.detection.proofs.sums.is_read.Reads as is-read-reads
 
 is-read-requires : tie.Need-is-read-requires
 is-read-requires c κs = search needs

@@ -1,9 +1,8 @@
+-- `detection::sums::side_of` meets its contract. Assumes nothing.
 use Rattle.detection.proofs.TableLaws.{side-bits}
 use borrow.Author.Needs.{needs}
 use Rattle.detection.proofs.sums.side_of.Statement.{statement}
 use Rattle.detection.proofs.sums.side_of.Tie as tie
-use Rattle.detection.proofs.sums.side_of.Reads as reads
-use Rattle.detection.proofs.sums.side_of.Lts as lts
 
 mul-result : tie.Need-mul-result
 mul-result c = search needs

@@ -1,9 +1,7 @@
+-- `detection::sums::sold_amount` meets its contract. Assumes nothing.
 use Rattle.detection.proofs.TableLaws.{sold-yes, sold-no}
-use borrow.Author.Needs.{needs}
 use Rattle.detection.proofs.sums.sold_amount.Statement.{statement}
 use Rattle.detection.proofs.sums.sold_amount.Tie as tie
-use Rattle.detection.proofs.sums.sold_amount.Reads as reads
-use Rattle.detection.proofs.sums.sold_amount.Lts as lts
 
 returns : tie.Need-returns
 returns c = search sold-yes

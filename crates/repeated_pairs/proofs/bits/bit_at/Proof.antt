@@ -1,0 +1,22 @@
+-- `repeated_pairs::bits::bit_at` meets its contract. Assumes nothing.
+use mathlib.Core.Path.{refl}
+use Rattle.repeated_pairs.specs.Pairs.{bitAt}
+use borrow.Author.Needs.{needs}
+use Rattle.repeated_pairs.proofs.bits.bit_at.Statement.{statement}
+use Rattle.repeated_pairs.proofs.bits.bit_at.Tie as tie
+
+mul-result : tie.Need-mul-result
+mul-result c = search needs
+
+shared-slice-read-result : tie.Need-shared-slice-read-result
+shared-slice-read-result c = search needs
+
+shr-result : tie.Need-shr-result
+shr-result c = search needs
+
+returns : tie.Need-returns
+unfolding bitAt
+returns c = refl
+
+pub bit-at-spec : {M : Type 1} → statement M
+bit-at-spec = tie.close (tie.spec mul-result shared-slice-read-result shr-result returns)
