@@ -1,18 +1,34 @@
 -- What a call answers and leaves, by the cause that it found. Assumes nothing.
-use mathlib.Core.Path.{_≡_, sym, ap, ap₂, _∙_}
+use mathlib.Core.Path.{_≡_, refl, sym, ap, ap₂, _∙_}
 use mathlib.Core.Bool.{true}
-use mathlib.Core.List.{List}
+use mathlib.Core.List.{List, [], _∷_}
 use Prim.Native.Nat.{ℕ, _≤_, _<_}
-use lib.ListN.{length}
+use lib.ListN.{length, set}
 use Rattle.rules.specs.Entry.{Key, recordOf, legal, standing, withdrawn}
-use Rattle.rules.specs.Words.{countOf, roomIn}
+use Rattle.rules.specs.Words.{word, countOf, roomIn}
+use Rattle.rules.specs.Book.{openCause, openWords}
 use Rattle.rules.specs.Stores.{posted, restatused}
 use Rattle.rules.specs.Calls.{post, withdraw, figuresOn, causeOf, wordsAfter, postAnswer}
 use Rattle.rules.specs.declared.Posted.{Posted}
 use Rattle.rules.proofs.WordLaws.{book-facts}
-use Rattle.rules.proofs.BookLaws.{new-legal}
+use Rattle.numbers.proofs.CauseLaws.{done-zero}
+use Rattle.rules.proofs.BookLaws.{open-refused, new-legal}
 use Rattle.rules.proofs.CallLaws.{entries-count, refused-words, refused-figures, done-figures, post-passes, withdraw-passes, post-stores, withdraw-stores}
 use Rattle.words.proofs.BookCode.{Placed, book-entry}
+
+-- an opening stores the word with the count last
+count-last : (ws : List ℕ) (n R TM : ℕ) → set (set (set ws 1 R) 2 TM) 0 n ≡ set (set (set ws 0 n) 1 R) 2 TM
+count-last [] n R TM = refl
+count-last (w ∷ ws) n R TM = refl
+
+module _ (ws : List ℕ) (R TM : ℕ) {cause : ℕ} (e : cause ≡ openCause (length ws) R TM) where
+  pub open-refuses : (cause ≡ 0 → ⊥) → (cause ≡ openCause (length ws) R TM) × (ws ≡ openWords ws R TM)
+  open-refuses h = (e, sym (open-refused ws R TM (λ q. h (e ∙ q))))
+
+  pub open-leaves : cause ≡ 0 → (0 ≡ openCause (length ws) R TM) × (set (set (set ws 1 (word 7 R)) 2 (word 8 TM)) 0 (word 6 0) ≡ openWords ws R TM)
+  unfolding openWords
+  open-leaves z =
+      (sym z ∙ e, count-last ws (word 6 0) (word 7 R) (word 8 TM) ∙ sym (done-zero _ _ _ (sym e ∙ z)))
 
 abbrev answered : ℕ → ℕ → Posted
 answered cause number = record { answer = cause; number = number }

@@ -26,6 +26,7 @@ use rules::causes::NO_ROOM;
 use rules::causes::NOT_A_BOOK;
 use rules::layout::COEFFICIENT_WORD;
 use rules::layout::COUNT_WORD;
+use rules::layout::HEAD_WORDS;
 use rules::layout::KIND;
 use rules::layout::TOLERANCE_WORD;
 use rules::layout::WITHDRAWN;
@@ -50,12 +51,11 @@ pub fn is_book(book: &[u32]) -> bool
     words::entries_ok(book, count)
 }
 
-// Opens a book with coefficient R and tolerance amount TM: three words are written and no other, that with the count last.
-pub fn open(book: &mut [u32], coefficient: u32, tolerance: u32) -> u32
-    ensures answer { λ r. ⌜ r ≡ openCause (length (now (book .entry))) coefficient tolerance ⌝ }
-    ensures words { λ r. ⌜ now (book .exit) ≡ openWords (now (book .entry)) coefficient tolerance ⌝ }
+// Why so many lent words cannot be opened with these figures, or 0.
+pub fn open_cause(lent: usize, coefficient: u32, tolerance: u32) -> u32
+    ensures { λ r. ⌜ r ≡ openCause lent coefficient tolerance ⌝ }
 {
-    if book.len() < 3 {
+    if lent < HEAD_WORDS {
         return BAD_LENGTH;
     }
     if MOST_COEFFICIENT < coefficient {
@@ -63,6 +63,18 @@ pub fn open(book: &mut [u32], coefficient: u32, tolerance: u32) -> u32
     }
     if MOST_TOLERANCE < tolerance {
         return BAD_FIGURE;
+    }
+    0
+}
+
+// Opens a book with coefficient R and tolerance amount TM: three words are written and no other, that with the count last.
+pub fn open(book: &mut [u32], coefficient: u32, tolerance: u32) -> u32
+    ensures answer { λ r. ⌜ r ≡ openCause (length (now (book .entry))) coefficient tolerance ⌝ }
+    ensures words { λ r. ⌜ now (book .exit) ≡ openWords (now (book .entry)) coefficient tolerance ⌝ }
+{
+    let cause = open_cause(book.len(), coefficient, tolerance);
+    if cause != 0 {
+        return cause;
     }
     book[1] = COEFFICIENT_WORD + coefficient;
     book[2] = TOLERANCE_WORD + tolerance;

@@ -1,4 +1,4 @@
-// An opening of a book in lent bytes: three words are read and written.
+// An opening of a book in lent bytes: three words are written where they lie, that with the count last.
 ghost use mathlib.Core.Path.{_≡_};
 ghost use lib.ListN.{length};
 ghost use Rattle.rules.specs.Refusals.{notABook};
@@ -7,7 +7,9 @@ ghost use Rattle.word_bytes.specs.Bytes.{onWords, withWords};
 use rules::bounds::DEFAULT_COEFFICIENT;
 use rules::bounds::DEFAULT_TOLERANCE;
 use rules::causes::NOT_A_BOOK;
-use rules::layout::HEAD_WORDS;
+use rules::layout::COEFFICIENT_WORD;
+use rules::layout::COUNT_WORD;
+use rules::layout::TOLERANCE_WORD;
 
 pub fn open(book: &mut [u8], coefficient: u32, tolerance: u32) -> u32
     ensures answer { λ r. ⌜ r ≡ onWords (now (book .entry)) (λ ws. openCause (length ws) coefficient tolerance) notABook ⌝ }
@@ -16,11 +18,14 @@ pub fn open(book: &mut [u8], coefficient: u32, tolerance: u32) -> u32
     if !word_bytes::is_whole(book) {
         return NOT_A_BOOK;
     }
-    let mut words = [0u32; HEAD_WORDS];
-    let n = word_bytes::decode_head(book, &mut words);
-    let opened = book::open(&mut words[..n], coefficient, tolerance);
-    word_bytes::write_back(opened, &words[..n], book);
-    opened
+    let cause = book::open_cause(book.len() / 4, coefficient, tolerance);
+    if cause != 0 {
+        return cause;
+    }
+    word_bytes::put_word(book, 4, COEFFICIENT_WORD + coefficient);
+    word_bytes::put_word(book, 8, TOLERANCE_WORD + tolerance);
+    word_bytes::put_word(book, 0, COUNT_WORD);
+    0
 }
 
 // With the figures of an opening that names none (02, T-12).

@@ -124,3 +124,16 @@ write-step bs ws i h cs e =
     let m : 4 * (i + 1) ≡ 4 * i + 4 = omega arith in
     let past : drop (4 * i + 4) cs ≡ drop (4 * i + 4) bs = ap (λ x. drop (4 * i + 4) x) e ∙ rw (← l) (drop-append-add (bytesOf (take i ws)) _ 4) ∙ drop-drop 4 (4 * i) bs in
     rw (past, m, e, take-at (bytesOf (take i ws)) (drop (4 * i) bs) (4 * i) l, add-one i, take-suc ws i 0 h, bytes-append, append-assoc)
+
+-- a word's bytes put over those of word i
+put-set : (ws : List ℕ) (i w : ℕ) → i < length ws → take (4 * i) (bytesOf ws) ++ bytesOf (w ∷ []) ++ drop (4 * i + 4) (bytesOf ws) ≡ bytesOf (set ws i w)
+unfolding bytesOf
+put-set [] i w h = absurd (omega arith)
+put-set (v ∷ ws) zero w h = refl
+put-set (v ∷ ws) (suc i) w h =
+    let m : 4 * suc i ≡ suc (suc (suc (suc (4 * i)))) = omega arith in
+    let n : suc (suc (suc (suc (4 * i)))) + 4 ≡ suc (suc (suc (suc (4 * i + 4)))) = omega arith in
+    rw (m, n, put-set ws i w (omega arith))
+
+pub put-step : (ws : List ℕ) {bs cs : List ℕ} (i w : ℕ) → i < length ws → bs ≡ bytesOf ws → cs ≡ take (4 * i) bs ++ bytesOf (w ∷ []) ++ drop (4 * i + 4) bs → cs ≡ bytesOf (set ws i w)
+put-step ws i w h b c = c ∙ rw b (put-set ws i w h)

@@ -32,10 +32,6 @@ pub count-whole : (m : ℕ) {n : ℕ} (bs : List ℕ) → isWhole bs ≡ true �
 unfolding countIn
 count-whole m bs w e = e ∙ rw w
 
-pub count-head : (bs : List ℕ) → countIn 3 bs ≤ 3
-unfolding countIn
-count-head bs = elim (bool-cases (isWhole bs)) [ inl e ↦ rw e (omega arith) | inr e ↦ rw e (omega arith) ]
-
 -- less than a word has no entries
 pub used-none : (k : ℕ) (bs : List ℕ) → length bs < 4 → min bookWords (3 + 5 * (0 + k)) ≡ usedWith k (wordsOf bs)
 unfolding wordsOf
@@ -86,7 +82,7 @@ module _ (n : ℕ) (ws vs : List ℕ) (h : n ≤ length ws) (k : length vs ≡ l
 pub ruleset parts = (taken, back-long, back-taken, back-lent)
 
 -- the words that the code reads
-pub words-whole : (m : ℕ) (bs : List ℕ) → isWhole bs ≡ true → wordsIn m bs ≡ take m (wordsOf bs)
+words-whole : (m : ℕ) (bs : List ℕ) → isWhole bs ≡ true → wordsIn m bs ≡ take m (wordsOf bs)
 unfolding wordsIn
 words-whole m bs w = rw w
 

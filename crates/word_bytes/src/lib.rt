@@ -132,19 +132,12 @@ fn decode_first(bytes: &[u8], most: usize, words: &mut [u32]) -> usize
     n
 }
 
-// Those that a call needs, and the three before the entries, which an opening writes.
+// Those that a call needs.
 pub fn decode(bytes: &[u8], added: usize, words: &mut [u32]) -> usize
     requires { ⌜ neededFor added (now bytes) ≤ length (now words) ⌝ }
     ensures { λ r. ⌜ Decoded (usedWith added (wordsOf (now (bytes .entry)))) (now (bytes .entry)) (now (words .exit)) r ⌝ }
 {
     decode_first(bytes, used(bytes, added), words)
-}
-
-pub fn decode_head(bytes: &[u8], words: &mut [u32]) -> usize
-    requires { ⌜ 3 ≤ length (now words) ⌝ }
-    ensures { λ r. ⌜ Decoded 3 (now (bytes .entry)) (now (words .exit)) r ⌝ }
-{
-    decode_first(bytes, HEAD_WORDS, words)
 }
 
 // Where a book's entries end, by its bytes, or where the words do.

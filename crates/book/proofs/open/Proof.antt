@@ -1,72 +1,56 @@
 -- `book::open` meets its contract. Assumes nothing.
-use mathlib.Core.Path.{_≡_, refl}
-use mathlib.Core.List.{List, [], _∷_}
-use Prim.Native.Nat.{ℕ}
+use mathlib.Core.Path.{sym, _∙_}
 use native.Mathlib.Omega.{arith}
-use lib.ListN.{set, length-set}
-use borrow.Author.Tests.{lt-leb, le-leb}
+use lib.ListN.{length, length-set}
 use borrow.Author.Needs.{needs}
-use Rattle.rules.specs.Words.{word}
-use Rattle.rules.specs.Book.{openCause, openWords}
+use Rattle.rules.proofs.BookLaws.{OpenLimits, open-limits}
+use Rattle.book.proofs.Calls.{open-refuses, open-leaves}
 use Rattle.book.proofs.open.Statement.{statement}
 use Rattle.book.proofs.open.Tie as tie
 
--- three words stored, the first of them last
-count-last : (ws : List ℕ) (n R TM : ℕ) → set (set (set ws 1 R) 2 TM) 0 n ≡ set (set (set ws 0 n) 1 R) 2 TM
-count-last [] n R TM = refl
-count-last (w ∷ ws) n R TM = refl
+-- with no cause found: the words and the figures are within their limits
+within : (e : tie.Else1) →
+    let a = e .before .before .before .args in
+    OpenLimits (length (a .book .now)) (a .coefficient) (a .tolerance)
+within e = open-limits _ _ _ (sym (e .before .open-cause .ensures) ∙ e .if1 .left)
+
+open-cause-requires : tie.Need-open-cause-requires
+open-cause-requires c κs = search needs
 
 returns : tie.Need-returns
-unfolding openCause openWords
-returns c = rw (lt-leb 3 _ (c .if1 .taken)) (refl, refl)
-
-returns-2 : tie.Need-returns-2
-unfolding openCause openWords
-returns-2 c = rw (le-leb 3 _ (c .before .if1 .left), lt-leb _ 1000 (c .if2 .taken)) (refl, refl)
-
-returns-3 : tie.Need-returns-3
-unfolding openCause openWords
-returns-3 c =
-    let b = c .before in
-    rw (le-leb 3 _ (b .before .if1 .left), le-leb _ 1000 (b .if2 .left), lt-leb _ 200000000 (c .if3 .taken)) (refl, refl)
+returns c = open-refuses _ _ _ (c .before .open-cause .ensures) (c .if1 .taken)
 
 add-book : tie.Need-add-book
-add-book c = search needs
+add-book c = let l = within c in omega arith
 
 slice-write-book : tie.Need-slice-write-book
-slice-write-book c = search needs
+slice-write-book c = let l = within c in omega arith
 
 add-book-2 : tie.Need-add-book-2
-add-book-2 c = search needs
+add-book-2 c = let l = within c in omega arith
 
 slice-write-book-2 : tie.Need-slice-write-book-2
-slice-write-book-2 c = search needs
+slice-write-book-2 c = let l = within c in simp length-set (omega arith)
 
 slice-write-book-3 : tie.Need-slice-write-book-3
-slice-write-book-3 c = simp length-set (omega arith)
+slice-write-book-3 c = let l = within c in simp length-set (omega arith)
 
 same-length : tie.Need-same-length
 same-length c = search needs
 
-returns-4 : tie.Need-returns-4
-unfolding openCause openWords
-returns-4 c =
-    let b = c .before in
-    let a = b .before .before .args in
-    rw (le-leb 3 _ (b .before .if1 .left), le-leb _ 1000 (b .if2 .left), le-leb _ 200000000 (c .if3 .left))
-    (refl, count-last (a .book .now) (word 6 0) (word 7 (a .coefficient)) (word 8 (a .tolerance)))
+returns-2 : tie.Need-returns-2
+returns-2 c = open-leaves _ _ _ (c .before .open-cause .ensures) (c .if1 .left)
 
 pub open-spec : {M : Type 1} → statement M
 open-spec =
     tie.close
     (tie.spec
+    open-cause-requires
     returns
-    returns-2
-    returns-3
     add-book
     slice-write-book
     add-book-2
     slice-write-book-2
     slice-write-book-3
     same-length
-    returns-4)
+    returns-2)
