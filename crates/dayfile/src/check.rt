@@ -83,6 +83,17 @@ pub fn block_cause(party: u32, day: u32) -> u32
 }
 
 // A day past the last flag is not closed.
+fn flag_of(closed: &[bool], day: u32) -> bool
+    ensures { λ r. ⌜ r ≡ getD (now (closed .entry)) day false ⌝ }
+{
+    let day = day as usize;
+    if day >= closed.len() {
+        return false;
+    }
+    closed[day]
+}
+
+// The flag is looked at before the type, which it would be costly to branch on in each line.
 pub fn line_cause(closed: &[bool], key: Key, amount: u64) -> u32
     ensures { λ r. ⌜ r ≡ causeBy (now (closed .entry)) (line (keyIn key) amount) ⌝ }
 {
@@ -90,14 +101,10 @@ pub fn line_cause(closed: &[bool], key: Key, amount: u64) -> u32
     if fault != 0 {
         return fault;
     }
-    if !entry_checks::is_bilateral(key) {
+    if !flag_of(closed, key.day) {
         return 0;
     }
-    let day = key.day as usize;
-    if day >= closed.len() {
-        return 0;
-    }
-    if closed[day] {
+    if entry_checks::is_bilateral(key) {
         return DAY_CLOSED;
     }
     0

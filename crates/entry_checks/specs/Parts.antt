@@ -7,6 +7,10 @@ use Rattle.numbers.specs.Tests.{every}
 use Rattle.rules.specs.Entry.{lastParty, lastDay, within, bilateral, markType, updatedProgram, amountLimit}
 use Rattle.rules.specs.Words.{lowAmounts, word, kindOf, valueOf, typeBits}
 
+-- the largest counterparty of a type
+abbrev pub counterpartyLimit : ℕ → ℕ
+counterpartyLimit t = cond (eqb t bilateral) lastParty 0
+
 -- the largest type and counterparty as one number, in type 6 and in the others
 abbrev pub whoLimit : ℕ → ℕ
 whoLimit t = cond (eqb t bilateral) (typeBits bilateral lastParty 0) updatedProgram

@@ -4,7 +4,7 @@ ghost use mathlib.Core.List.{[], _∷_};
 ghost use lib.Dec.{leb};
 ghost use Rattle.rules.specs.Entry.{keyIn, entryOf, partyOk, dayOk, isType, isVolume, isMoney, isBilateral, counterpartyOk, amountLimit, fault};
 ghost use Rattle.rules.specs.Words.{decode, entryOk};
-ghost use Rattle.entry_checks.specs.Parts.{whoLimit, amountWords, amountWordsOk, markWordsOk};
+ghost use Rattle.entry_checks.specs.Parts.{counterpartyLimit, whoLimit, amountWords, amountWordsOk, markWordsOk};
 use rules::Entry;
 use rules::Key;
 use rules::bounds::LAST_DAY;
@@ -72,14 +72,22 @@ pub fn is_type(entry_type: u32) -> bool
     is_volume(entry_type) | is_money(entry_type)
 }
 
+// The largest counterparty of a type. It is chosen, and nothing branches on the type of a legal entry: see `words_ok`.
+fn counterparty_limit(entry_type: u32) -> u32
+    ensures { λ r. ⌜ r ≡ counterpartyLimit «entry_type» ⌝ }
+{
+    if entry_type == BILATERAL {
+        LAST_PARTY
+    } else {
+        0
+    }
+}
+
 pub fn counterparty_ok(key: Key) -> bool
     ensures { λ r. ⌜ r ≡ counterpartyOk (keyIn key) ⌝ }
 {
-    if key.entry_type == BILATERAL {
-        (key.counterparty <= LAST_PARTY) & !(key.counterparty == key.party)
-    } else {
-        key.counterparty == 0
-    }
+    (key.counterparty <= counterparty_limit(key.entry_type))
+        & !((key.counterparty == key.party) & (key.entry_type == BILATERAL))
 }
 
 pub fn amount_ok(entry_type: u32, amount: u64) -> bool
