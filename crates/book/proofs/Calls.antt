@@ -1,9 +1,12 @@
 -- What a call answers and leaves, by the cause that it found. Assumes nothing.
 use mathlib.Core.Path.{_≡_, refl, sym, ap, ap₂, _∙_}
-use mathlib.Core.Bool.{true}
+use mathlib.Core.Bool.{Bool, true, false, cond, _&&_, true≢false}
 use mathlib.Core.List.{List, [], _∷_}
 use Prim.Native.Nat.{ℕ, _≤_, _<_}
+use lib.Dec.{eqb, leb}
 use lib.ListN.{length, set}
+use Rattle.numbers.specs.Causes.{unless, firstOf}
+use Rattle.rules.specs.Refusals.{badLength, badFigure}
 use Rattle.rules.specs.Entry.{Key, recordOf, legal, standing, withdrawn}
 use Rattle.rules.specs.Words.{word, countOf, roomIn}
 use Rattle.rules.specs.Book.{openCause, openWords}
@@ -12,7 +15,7 @@ use Rattle.rules.specs.Calls.{post, withdraw, figuresOn, causeOf, wordsAfter, p
 use Rattle.rules.specs.declared.Posted.{Posted}
 use Rattle.rules.proofs.WordLaws.{book-facts}
 use Rattle.numbers.proofs.CauseLaws.{done-zero}
-use Rattle.rules.proofs.BookLaws.{open-refused, new-legal}
+use Rattle.rules.proofs.BookLaws.{new-legal}
 use Rattle.rules.proofs.CallLaws.{entries-count, refused-words, refused-figures, done-figures, post-passes, withdraw-passes, post-stores, withdraw-stores}
 use Rattle.words.proofs.BookCode.{Placed, book-entry}
 
@@ -21,14 +24,19 @@ count-last : (ws : List ℕ) (n R TM : ℕ) → set (set (set ws 1 R) 2 TM) 0 n 
 count-last [] n R TM = refl
 count-last (w ∷ ws) n R TM = refl
 
-module _ (ws : List ℕ) (R TM : ℕ) {cause : ℕ} (e : cause ≡ openCause (length ws) R TM) where
-  pub open-refuses : (cause ≡ 0 → ⊥) → (cause ≡ openCause (length ws) R TM) × (ws ≡ openWords ws R TM)
-  open-refuses h = (e, sym (open-refused ws R TM (λ q. h (e ∙ q))))
+pub open-leaves : (ws : List ℕ) (R TM : ℕ) → openCause (length ws) R TM ≡ 0 → set (set (set ws 1 (word 7 R)) 2 (word 8 TM)) 0 (word 6 0) ≡ openWords ws R TM
+unfolding openWords
+open-leaves ws R TM e = count-last ws (word 6 0) (word 7 R) (word 8 TM) ∙ sym (done-zero _ _ _ e)
 
-  pub open-leaves : cause ≡ 0 → (0 ≡ openCause (length ws) R TM) × (set (set (set ws 1 (word 7 R)) 2 (word 8 TM)) 0 (word 6 0) ≡ openWords ws R TM)
-  unfolding openWords
-  open-leaves z =
-      (sym z ∙ e, count-last ws (word 6 0) (word 7 R) (word 8 TM) ∙ sym (done-zero _ _ _ (sym e ∙ z)))
+-- what cannot be opened lacks a word, or has a figure out of its range
+pub open-refuses : (lent R TM : ℕ) → eqb (openCause lent R TM) 0 ≡ false → cond (leb 3 lent) badFigure badLength ≡ openCause lent R TM
+unfolding openCause
+open-refuses lent R TM = go (leb 3 lent) (leb R 1000 && leb TM 200000000)
+  where
+    go : (a b : Bool) → eqb (firstOf (unless a badLength ∷ unless b badFigure ∷ [])) 0 ≡ false → cond a badFigure badLength ≡ firstOf (unless a badLength ∷ unless b badFigure ∷ [])
+    go false b e = refl
+    go true false e = refl
+    go true true e = absurd (true≢false e)
 
 abbrev answered : ℕ → ℕ → Posted
 answered cause number = record { answer = cause; number = number }

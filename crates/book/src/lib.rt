@@ -1,7 +1,10 @@
 // The book in lent words: is it a book, open, post, withdraw, the number of entries and one entry (document 01, 'The words', 'Entry types').
 ghost use mathlib.Core.Path.{_≡_};
+ghost use mathlib.Core.Bool.{cond};
+ghost use lib.Dec.{eqb, leb};
 ghost use lib.ListN.{length};
 ghost use Rattle.rules.specs.Entry.{keyIn, recordIn};
+ghost use Rattle.rules.specs.Refusals.{badLength, badFigure};
 ghost use Rattle.rules.specs.Words.{isBook};
 ghost use Rattle.rules.specs.Book.{openCause, openWords, openDefaultCause, openDefaultWords, countAnswer, noRead, readOf, readAnswer};
 ghost use Rattle.rules.specs.Balance.{partyDayCause};
@@ -51,20 +54,21 @@ pub fn is_book(book: &[u32]) -> bool
     words::entries_ok(book, count)
 }
 
-// Why so many lent words cannot be opened with these figures, or 0.
-pub fn open_cause(lent: usize, coefficient: u32, tolerance: u32) -> u32
-    ensures { λ r. ⌜ r ≡ openCause lent coefficient tolerance ⌝ }
+// Whether so many lent words can be opened with these figures, in one test.
+pub fn can_open(lent: usize, coefficient: u32, tolerance: u32) -> bool
+    ensures { λ r. ⌜ r ≡ eqb (openCause lent coefficient tolerance) 0 ⌝ }
+{
+    (HEAD_WORDS <= lent) & ((coefficient <= MOST_COEFFICIENT) & (tolerance <= MOST_TOLERANCE))
+}
+
+// Why they cannot, where they cannot: their number, or else a figure.
+pub fn open_refusal(lent: usize) -> u32
+    ensures { λ r. ⌜ r ≡ cond (leb 3 lent) badFigure badLength ⌝ }
 {
     if lent < HEAD_WORDS {
         return BAD_LENGTH;
     }
-    if MOST_COEFFICIENT < coefficient {
-        return BAD_FIGURE;
-    }
-    if MOST_TOLERANCE < tolerance {
-        return BAD_FIGURE;
-    }
-    0
+    BAD_FIGURE
 }
 
 // Opens a book with coefficient R and tolerance amount TM: three words are written and no other, that with the count last.
@@ -72,9 +76,9 @@ pub fn open(book: &mut [u32], coefficient: u32, tolerance: u32) -> u32
     ensures answer { λ r. ⌜ r ≡ openCause (length (now (book .entry))) coefficient tolerance ⌝ }
     ensures words { λ r. ⌜ now (book .exit) ≡ openWords (now (book .entry)) coefficient tolerance ⌝ }
 {
-    let cause = open_cause(book.len(), coefficient, tolerance);
-    if cause != 0 {
-        return cause;
+    let lent = book.len();
+    if !can_open(lent, coefficient, tolerance) {
+        return open_refusal(lent);
     }
     book[1] = COEFFICIENT_WORD + coefficient;
     book[2] = TOLERANCE_WORD + tolerance;

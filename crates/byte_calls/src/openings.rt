@@ -11,16 +11,18 @@ use rules::layout::COEFFICIENT_WORD;
 use rules::layout::COUNT_WORD;
 use rules::layout::TOLERANCE_WORD;
 
+// One test of all: why a book cannot be opened is asked only where it cannot.
 pub fn open(book: &mut [u8], coefficient: u32, tolerance: u32) -> u32
     ensures answer { λ r. ⌜ r ≡ onWords (now (book .entry)) (λ ws. openCause (length ws) coefficient tolerance) notABook ⌝ }
     ensures bytes { λ r. ⌜ now (book .exit) ≡ withWords (now (book .entry)) (λ ws. openWords ws coefficient tolerance) ⌝ }
 {
-    if !word_bytes::is_whole(book) {
-        return NOT_A_BOOK;
-    }
-    let cause = book::open_cause(book.len() / 4, coefficient, tolerance);
-    if cause != 0 {
-        return cause;
+    let words = book.len() / 4;
+    let whole = word_bytes::is_whole(book);
+    if !(whole & book::can_open(words, coefficient, tolerance)) {
+        if !whole {
+            return NOT_A_BOOK;
+        }
+        return book::open_refusal(words);
     }
     word_bytes::put_word(book, 4, COEFFICIENT_WORD + coefficient);
     word_bytes::put_word(book, 8, TOLERANCE_WORD + tolerance);

@@ -1,35 +1,47 @@
 -- `byte_calls::openings::open` meets its contract. Assumes nothing.
-use mathlib.Core.Path.{_≡_, sym, _∙_}
-use mathlib.Core.Bool.{true}
+use mathlib.Core.Path.{_≡_, ap₂}
+use mathlib.Core.Bool.{true, _&&_}
 use Prim.Native.Nat.{_/_}
 use native.Mathlib.Omega.{arith}
+use lib.Dec.{eqb}
 use lib.ListN.{length}
 use borrow.Author.Needs.{needs}
-use borrow.Author.Tests.{not-true, not-false}
+use borrow.Author.Tests.{eqb-true}
+use Rattle.numbers.proofs.TestLaws.{and-split}
+use Rattle.rules.specs.Book.{openCause}
 use Rattle.rules.proofs.BookLaws.{OpenLimits, open-limits}
-use Rattle.word_bytes.proofs.BytesLaws.{Bytes}
+use Rattle.entry_checks.proofs.Ladder.{passed, failed}
 use Rattle.word_bytes.specs.Bytes.{isWhole}
+use Rattle.word_bytes.proofs.BytesLaws.{Bytes}
 use Rattle.byte_calls.proofs.OpenLaws.{open-odd, open-none, open-put}
 use Rattle.byte_calls.proofs.openings.open.Statement.{statement}
 use Rattle.byte_calls.proofs.openings.open.Tie as tie
 
--- past the test of the length: whole words; and with no cause found: figures within their limits
-abbrev lent : tie.Else1 → tie.Start
-lent w = w .before .before .before .before
+-- where the two tests have been made
+module _ (t : tie.After-can-open) where
+  abbrev start : tie.Start
+  start = t .before .before .before .before
 
-bytes : (w : tie.Else1) → Bytes (lent w .args .book .now)
-bytes w i = w .before .before .before .slice-known .given i .fits
+  bytes : Bytes (start .args .book .now)
+  bytes i = t .before .before .before .slice-known .given i .fits
 
-whole : (w : tie.Else1) → isWhole (lent w .args .book .now) ≡ true
-whole w = sym (w .before .is-whole .ensures) ∙ not-false _ (w .if1 .left)
+  both :
+      let a = start .args in
+      t .before .is-whole .result && t .can-open .result ≡ isWhole (a .book .now) && eqb (openCause (length (a .book .now) / 4) (a .coefficient) (a .tolerance)) 0
+  both = ap₂ _&&_ (t .before .is-whole .ensures) (t .can-open .ensures)
 
-abbrev tested : tie.Else2 → tie.Else1
-tested e = e .before .before
+-- and hold: whole words, and no cause
+clear : (e : tie.Else1) →
+    let a = start (e .before) .args in
+    (isWhole (a .book .now) ≡ true) × (openCause (length (a .book .now) / 4) (a .coefficient) (a .tolerance) ≡ 0)
+clear e =
+    let s = and-split _ _ (passed (both (e .before)) (e .if1 .left)) in
+    (s .0, eqb-true _ _ (s .1))
 
-within : (e : tie.Else2) →
-    let a = lent (tested e) .args in
+within : (e : tie.Else1) →
+    let a = start (e .before) .args in
     OpenLimits (length (a .book .now) / 4) (a .coefficient) (a .tolerance)
-within e = open-limits _ _ _ (sym (e .before .open-cause .ensures) ∙ e .if2 .left)
+within e = open-limits _ _ _ (clear e .1)
 
 -- where the second and the third word are put: what came before
 abbrev one-put : tie.After-put-word-arg2 → tie.After-put-word
@@ -41,20 +53,27 @@ two-put c = c .before .before .before
 is-whole-requires : tie.Need-is-whole-requires
 is-whole-requires c κs = search needs
 
+can-open-requires : tie.Need-can-open-requires
+can-open-requires c κs = search needs
+
 same-length : tie.Need-same-length
 same-length c = search needs
 
 returns : tie.Need-returns
-returns c = open-odd _ _ _ (sym (c .before .is-whole .ensures) ∙ not-true _ (c .if1 .taken))
+returns c = open-odd _ _ _ (failed (c .before .before .before .is-whole .ensures) (c .if2 .taken))
 
-open-cause-requires : tie.Need-open-cause-requires
-open-cause-requires c κs = search needs
+open-refusal-requires : tie.Need-open-refusal-requires
+open-refusal-requires c κs = search needs
 
 same-length-2 : tie.Need-same-length-2
 same-length-2 c = search needs
 
 returns-2 : tie.Need-returns-2
-returns-2 c = let w = c .before .before in open-none _ _ _ (bytes w) (whole w) (c .before .open-cause .ensures) (c .if2 .taken)
+returns-2 c =
+    let n = c .before .before in
+    let t = n .before in
+    let whole = passed (t .before .is-whole .ensures) (c .before .if2 .left) in
+    open-none _ _ _ (bytes t) whole (c .open-refusal .ensures) (rw whole at (failed (both t) (n .if1 .taken)))
 
 add-put-word : tie.Need-add-put-word
 add-put-word c = let l = within (c .before) in omega arith
@@ -85,17 +104,18 @@ returns-3 c =
     let two = two-put (three .before) in
     let one = one-put (two .before) in
     let e = one .before .before in
-    let w = tested e in
-    open-put _ _ _ (bytes w) (whole w) (e .before .open-cause .ensures) (e .if2 .left) (one .put-word .ensures) (two .put-word2 .ensures) (three .put-word3 .ensures)
+    let h = clear e in
+    open-put _ _ _ (bytes (e .before)) (h .0) (h .1) (one .put-word .ensures) (two .put-word2 .ensures) (three .put-word3 .ensures)
 
 pub open-spec : {M : Type 1} → statement M
 open-spec =
     tie.close
     (tie.spec
     is-whole-requires
+    can-open-requires
     same-length
     returns
-    open-cause-requires
+    open-refusal-requires
     same-length-2
     returns-2
     add-put-word
