@@ -1,5 +1,5 @@
 // The calls of include/fanzsoreb.h: those on a book twice, on words and on bytes, which differ in how the book is lent.
-use crate::answers::*;
+use peers::answers::*;
 
 macro_rules! on_books {
     ($($name:ident($($given:ident: $kind:ty),*) -> $answer:ty;)*) => {

@@ -1,15 +1,13 @@
 // Each call of the engine, on words and on bytes, beside plain Rust of the same algorithm class, in place and copying:
 // the same inputs, in one run. Answers and books are compared before a row is printed.
-mod answers;
 mod books;
-mod copying;
 mod engine;
-mod in_place;
 mod measure;
 
 use books::{Drawn, Tables, DAY, FULL};
 use engine::{fanzsoreb_ceiling, fanzsoreb_first_day, fanzsoreb_month, fanzsoreb_month_words};
 use measure::{round, shortest, Side};
+use peers::{copying, in_place};
 
 const SIZES: [usize; 5] = [0, 25, 100, 768, 3072];
 
@@ -22,7 +20,7 @@ struct Row {
 
 fn bytes(words: &mut [u32]) -> &mut [u8] {
     // every u32 is four bytes of any values
-    unsafe { words.align_to_mut::<u8>().1 }
+    unsafe { std::slice::from_raw_parts_mut(words.as_mut_ptr().cast(), 4 * words.len()) }
 }
 
 // The books of a row.
