@@ -1,14 +1,14 @@
 -- What the scan of a control makes of the entries: of each party what its day-ahead balance reads, and who is detected by it.
 -- Only the contracts of internal functions cite these; the laws tie them to rules/specs/Control.
 use mathlib.Core.Path.{_≡_}
-use mathlib.Core.Bool.{Bool, true, not, cond, _&&_, _||_}
+use mathlib.Core.Bool.{Bool, true, false, not, cond, _&&_, _||_}
 use mathlib.Core.List.{List, [], _∷_}
 use Prim.Native.Nat.{ℕ, _+_, _*_, _≤_, max}
 use lib.Dec.{eqb}
 use lib.IntN.{ℤ, subℕ}
-use lib.ListN.{length, getD}
+use lib.ListN.{length, getD, replicate}
 use Rattle.numbers.specs.Tests.{every}
-use Rattle.rules.specs.Entry.{Label, Record, key, isExport, bilateral, updatedProgram, standing, partyOk, lastParty}
+use Rattle.rules.specs.Entry.{Label, Record, key, isExport, bilateral, updatedProgram, standing, partyOk, lastParty, partyPlaces}
 use Rattle.rules.specs.Words.{entries, coefficientOf, toleranceOf, mostCoefficient, mostTolerance}
 use Rattle.rules.specs.Balance.{isDetected}
 use Rattle.rules.specs.Control.{Parties, detectedIn, isRepeatedBuyer}
@@ -81,6 +81,11 @@ checked ws d among p = flagged among p && detectedIn (coefficientOf ws) (toleran
 -- the parties of a pass over a book: those detected, in the second pass among the buyers of repeated pairs
 unfoldable pub ofPass : Bool → List ℕ → ℕ → Parties
 ofPass second ws d p = cond second (isRepeatedBuyer d (entries ws) p) true && detectedIn (coefficientOf ws) (toleranceOf ws) d (entries ws) p
+
+-- whom the second pass asks: at first everyone; then some who, so far as they are buyers of repeated pairs, are its parties
+pub record Asked (found : Bool) (ws : List ℕ) (d : ℕ) (among : List Bool) : Type 0 where
+  pub everyone : found ≡ false → among ≡ replicate partyPlaces true
+  pub narrowed : found ≡ true → (p : ℕ) → flagged among p && isRepeatedBuyer d (entries ws) p ≡ ofPass true ws d p
 
 -- a table whose balances fit, and flags of which none is set
 pub record Flaggable (cells : List ℕ) (R TM : ℕ) (flags : List Bool) : Type 0 where
