@@ -59,7 +59,7 @@
  * largest books and tables; a thread's own data, which some C libraries keep on its stack, come on top. A call on a
  * book's bytes takes stack by the number of entries, or by the length where that is less: up to 25 entries at most 6
  * KiB, up to 127 at most 9, up to 768 at most 21, above that at most 66; an opening takes none. The lines of a day file
- * count as entries; a day file into a book that has a day's mark takes 36 KiB more, a control that is done 145.
+ * count as entries; a day file into a book that has a day's mark takes 36 KiB more, a control that is done 135.
  */
 #ifndef FANZSOREB_H
 #define FANZSOREB_H
@@ -71,9 +71,9 @@
 extern "C" {
 #endif
 
-/* 2.1.0: major x 10,000 + minor x 100 + patch. A changed struct or signature raises the major number, a new call the
+/* 2.1.1: major x 10,000 + minor x 100 + patch. A changed struct or signature raises the major number, a new call the
  * minor one, any other change the patch. */
-#define FANZSOREB_VERSION 20100
+#define FANZSOREB_VERSION 20101
 
 #define FANZSOREB_MOST_ENTRIES 3072      /* of a book */
 #define FANZSOREB_BOOK_WORDS 15363       /* of a book with room for as many, 3 + 5 x 3,072 */
@@ -81,14 +81,15 @@ extern "C" {
 #define FANZSOREB_MOST_FILE_BYTES 65536  /* of a day file */
 #define FANZSOREB_HORIZON_MONTHS 4800    /* of fanzsoreb_first_day: January 2000 to December 2399 */
 
-/* Sizes of a thread's whole stack, in bytes, each enough for the calls named; new in version 2.1.0. */
+/* Sizes of a thread's whole stack, in bytes, each enough for the calls named; new in version 2.1.0, those
+ * of control lower since 2.1.1. */
 #define FANZSOREB_STACK_FIGURES 16384         /* version, detected, ceiling, first_day */
 #define FANZSOREB_STACK_WORDS 16384           /* on a book's words, but for a file or control; the month on words */
 #define FANZSOREB_STACK_FILE_WORDS 49152      /* a file into a book's words */
-#define FANZSOREB_STACK_CONTROL_WORDS 163840  /* control on a book's words */
+#define FANZSOREB_STACK_CONTROL_WORDS 155648  /* control on a book's words */
 #define FANZSOREB_STACK_BOOK 81920            /* on a book's bytes, but for a file or control */
 #define FANZSOREB_STACK_FILE 114688           /* a file into a book's bytes */
-#define FANZSOREB_STACK_CONTROL 229376        /* control on a book's bytes */
+#define FANZSOREB_STACK_CONTROL 221184        /* control on a book's bytes */
 #define FANZSOREB_STACK_MONTH 24576           /* the month on bytes */
 
 /* Why a call comes back. */

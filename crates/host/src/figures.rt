@@ -7,12 +7,12 @@ use rules::CeilingAnswer;
 use rules::FirstDayAnswer;
 
 // Major × 10,000 + minor × 100 + patch.
-const VERSION: u32 = 20100;
+const VERSION: u32 = 20101;
 
 // The version of the calls.
 #[no_mangle]
 pub extern "C" fn fanzsoreb_version() -> u32
-    ensures { λ r. ⌜ r ≡ 2 * 10000 + 1 * 100 + 0 ⌝ }
+    ensures { λ r. ⌜ r ≡ 2 * 10000 + 1 * 100 + 1 ⌝ }
 {
     VERSION
 }
