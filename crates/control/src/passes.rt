@@ -63,8 +63,7 @@ fn cancel(book: &mut [u32], day: u32, flags: &Flags) -> u32
     n
 }
 
-// One pass by a table: its parties are counted, and their sales cancelled together. Two calls of it keep the compiler from
-// putting the table, 144,000 bytes, into the frame of its caller: a control that needs no table needs no such stack.
+// One pass by a table: its parties are counted, and their sales cancelled together.
 fn pass(book: &mut [u32], day: u32, second: bool) -> Passed
     requires { ⌜ isBook (now book) ≡ true ⌝ }
     ensures counts { λ r. ⌜ r ≡ passOf (ofPass second (now (book .entry)) day) day (now (book .entry)) ⌝ }
@@ -89,10 +88,7 @@ pub fn run_pass(book: &mut [u32], day: u32, second: bool) -> Passed
             entries: 0,
         };
     }
-    if second {
-        return pass(book, day, true);
-    }
-    pass(book, day, false)
+    pass(book, day, second)
 }
 
 // The mark of a day takes the next place.

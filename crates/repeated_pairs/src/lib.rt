@@ -19,8 +19,10 @@ use rules::layout::HEAD_WORDS;
 mod bits;
 pub mod parties;
 
-// The words of few bits of pairs, and of a bit for each.
-const FEW_WORDS: usize = 64;
+// Few bits of pairs, the words that hold them, and the words of a bit for each pair.
+const FEW_BITS: usize = 4096;
+
+const FEW_WORDS: usize = FEW_BITS / 64;
 
 const ALL_WORDS: usize = 16000;
 
@@ -65,7 +67,7 @@ fn bit_of(e: Entry, few: bool) -> usize
     ensures { λ r. ⌜ r ≡ bitOf few (recordIn e) ⌝ }
 {
     let pair = (1024 * e.key.party + e.key.counterparty) as usize;
-    if few { pair % 4096 } else { pair }
+    if few { pair % FEW_BITS } else { pair }
 }
 
 fn mark_pair(pairs: &mut [u64], e: Entry, day: u32, period: Period, few: bool) -> u32

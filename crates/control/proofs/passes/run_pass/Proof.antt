@@ -24,27 +24,9 @@ same-length-2 : tie.Need-same-length-2
 same-length-2 c = search needs
 
 returns-2 : tie.Need-returns-2
-returns-2 c = let p = c .before .before in rw (p .before .before .if2 .taken) (p .pass .ensures)
-
-pass-requires-2 : tie.Need-pass-requires-2
-pass-requires-2 c κs = search needs
-
-same-length-3 : tie.Need-same-length-3
-same-length-3 c = search needs
-
-returns-3 : tie.Need-returns-3
-returns-3 c = let p = c .before .before in rw (p .before .before .if2 .left) (p .pass2 .ensures)
+returns-2 c = search needs
 
 pub run-pass-spec : {M : Type 1} → statement M
 run-pass-spec =
     tie.close
-    (tie.spec
-    has-nobody-requires
-    same-length
-    returns
-    pass-requires
-    same-length-2
-    returns-2
-    pass-requires-2
-    same-length-3
-    returns-3)
+    (tie.spec has-nobody-requires same-length returns pass-requires same-length-2 returns-2)
