@@ -44,8 +44,8 @@
  * same time.
  *
  * A host that is killed. Books may stand in mapped files. The word with the number of entries is stored last, by a
- * store of its own, after the words of new entries and after statuses. So a process that is ended in the middle of a
- * call, at any moment, leaves of
+ * store of its own (of an opening that names no figures by one store with R), after the words of new entries and after
+ * statuses. So a process that is ended in the middle of a call, at any moment, leaves of
  *   a post, a day file   the book as it was, or with the entry or with all lines of the file
  *   a withdrawal         the entry standing or withdrawn
  *   an opening           what was there, in which R and TM may already be the new ones, or the opened book. Over an
@@ -81,8 +81,8 @@ extern "C" {
 #define FANZSOREB_MOST_FILE_BYTES 65536  /* of a day file */
 #define FANZSOREB_HORIZON_MONTHS 4800    /* of fanzsoreb_first_day: January 2000 to December 2399 */
 
-/* Sizes of a thread's whole stack, in bytes, each enough for the calls named; new in version 2.1.0, those
- * of control lower since 2.1.1. */
+/* Sizes of a thread's whole stack, in bytes, each enough for the calls named; new in version 2.1.0, those of
+ * control lower since 2.1.1. */
 #define FANZSOREB_STACK_FIGURES 16384         /* version, detected, ceiling, first_day */
 #define FANZSOREB_STACK_WORDS 16384           /* on a book's words, but for a file or control; the month on words */
 #define FANZSOREB_STACK_FILE_WORDS 49152      /* a file into a book's words */

@@ -73,10 +73,12 @@ buyersOf few d among pairs rs = over (buyerMarked few d among pairs) rs noFlags
 abbrev pub sharesBit : Bool → ℕ → Record → Record → Bool
 sharesBit few d r s = isOther d s && eqb (bitOf few s) (bitOf few r)
 
--- the buyers among some with such a bit; of all bits those of repeated pairs, of few bits those and perhaps others
+-- the buyers of cancelled entries of the day with such a bit: by a bit for each pair those of repeated pairs, by few bits
+-- those and perhaps others
 unfoldable pub likelyBuyer : Bool → ℕ → List Record → Parties
 likelyBuyer few d rs p =
     any (λ r. every (isCancelled r ∷ eqb (key r .day) d ∷ eqb (key r .counterparty) p ∷ any (sharesBit few d r) rs ∷ [])) rs
 
+-- such buyers among some parties
 unfoldable pub likelyAmong : Bool → ℕ → List Record → List Bool → Parties
 likelyAmong few d rs among p = flagged among p && likelyBuyer few d rs p
