@@ -1,7 +1,7 @@
 # Builds the library that a host links, installs it, and runs the hosts' tests.
 PREFIX ?= /usr/local
 DESTDIR ?=
-VERSION = 2.1.1
+VERSION = 2.2.0
 # random comparisons a call in `make test`
 ROUNDS ?= 20000
 

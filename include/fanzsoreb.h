@@ -59,7 +59,8 @@
  * largest books and tables; a thread's own data, which some C libraries keep on its stack, come on top. A call on a
  * book's bytes takes stack by the number of entries, or by the length where that is less: up to 25 entries at most 6
  * KiB, up to 127 at most 9, up to 768 at most 21, above that at most 66; an opening takes none. The lines of a day file
- * count as entries; a day file into a book that has a day's mark takes 36 KiB more, a control that is done 135.
+ * count as entries; a day file into a book that has a day's mark takes 36 KiB more, a control that is done 135, a month
+ * report 29 at most, its answer in its caller's frame among them.
  */
 #ifndef FANZSOREB_H
 #define FANZSOREB_H
@@ -71,23 +72,28 @@
 extern "C" {
 #endif
 
-/* 2.1.1: major x 10,000 + minor x 100 + patch. A changed struct or signature raises the major number, a new call the
+/* 2.2.0: major x 10,000 + minor x 100 + patch. A changed struct or signature raises the major number, a new call the
  * minor one, any other change the patch. */
-#define FANZSOREB_VERSION 20101
+#define FANZSOREB_VERSION 20200
 
 #define FANZSOREB_MOST_ENTRIES 3072      /* of a book */
 #define FANZSOREB_BOOK_WORDS 15363       /* of a book with room for as many, 3 + 5 x 3,072 */
 #define FANZSOREB_BOOK_BYTES 61452       /* the same in bytes */
 #define FANZSOREB_MOST_FILE_BYTES 65536  /* of a day file */
 #define FANZSOREB_HORIZON_MONTHS 4800    /* of fanzsoreb_first_day: January 2000 to December 2399 */
+#define FANZSOREB_REPORT_MONTHS 1200     /* of fanzsoreb_month_report: January 2000 to December 2099 */
+#define FANZSOREB_REPORT_LINES 32        /* of a month report: 31 days at most, and the totals */
+#define FANZSOREB_REPORT_SUMS 21         /* of a line: types 1 to 20, and 22 last */
 
 /* Sizes of a thread's whole stack, in bytes, each enough for the calls named; new in version 2.1.0, those of
- * control lower since 2.1.1. */
+ * control lower since 2.1.1, those of a report new in 2.2.0. */
 #define FANZSOREB_STACK_FIGURES 16384         /* version, detected, ceiling, first_day */
-#define FANZSOREB_STACK_WORDS 16384           /* on a book's words, but for a file or control; the month on words */
+#define FANZSOREB_STACK_WORDS 16384           /* on a book's words, but for the next three; the month on words */
+#define FANZSOREB_STACK_REPORT_WORDS 32768    /* a month report of a book's words, its answer on the same stack */
 #define FANZSOREB_STACK_FILE_WORDS 49152      /* a file into a book's words */
 #define FANZSOREB_STACK_CONTROL_WORDS 155648  /* control on a book's words */
-#define FANZSOREB_STACK_BOOK 81920            /* on a book's bytes, but for a file or control */
+#define FANZSOREB_STACK_BOOK 81920            /* on a book's bytes, but for the next three */
+#define FANZSOREB_STACK_REPORT 114688         /* a month report of a book's bytes, its answer on the same stack */
 #define FANZSOREB_STACK_FILE 114688           /* a file into a book's bytes */
 #define FANZSOREB_STACK_CONTROL 221184        /* control on a book's bytes */
 #define FANZSOREB_STACK_MONTH 24576           /* the month on bytes */
@@ -130,7 +136,8 @@ enum fanzsoreb_type {
     FANZSOREB_FUTURES_SALE = 3,
     FANZSOREB_DEFAULT_DAY_AHEAD_SALE = 4,
     FANZSOREB_DEFAULT_INTRADAY_SALE = 5,
-    FANZSOREB_BILATERAL_SALE = 6,   /* to the counterparty; counterparty 0 is an export, counted nowhere */
+    FANZSOREB_BILATERAL_SALE = 6,   /* to the counterparty; counterparty 0 is an export, counted in the month report
+                                       alone */
     FANZSOREB_DAY_AHEAD_PURCHASE = 7,
     FANZSOREB_INTRADAY_PURCHASE = 8,
     FANZSOREB_FUTURES_PURCHASE = 9,
@@ -173,6 +180,10 @@ typedef struct {
 typedef struct { uint32_t answer; fanzsoreb_month_figures month; } fanzsoreb_month_answer;
 typedef struct { uint32_t answer; uint32_t recordable; } fanzsoreb_ceiling_answer;
 typedef struct { uint32_t answer; uint32_t day; } fanzsoreb_first_day_answer;
+typedef struct {
+    uint32_t answer, month, first_day, days;
+    uint64_t lines[32][21]; /* kWh, of types 17 to 20 kurus: a line a day, then that of the totals */
+} fanzsoreb_report;
 typedef struct { uint32_t answer, first, second, cancelled; } fanzsoreb_controlled;
 typedef struct { uint32_t answer; uint32_t posted; } fanzsoreb_file_read;
 typedef struct {
@@ -239,6 +250,26 @@ fanzsoreb_balance fanzsoreb_day_ahead_words(const uint32_t *book, size_t words, 
 fanzsoreb_balance fanzsoreb_delivery_words(const uint32_t *book, size_t words, uint32_t party, uint32_t day);
 fanzsoreb_balance fanzsoreb_day_ahead(const uint8_t *book, size_t length, uint32_t party, uint32_t day);
 fanzsoreb_balance fanzsoreb_delivery(const uint8_t *book, size_t length, uint32_t party, uint32_t day);
+
+/* The month report: all parties' sums of standing entries by day and type, and the month's totals. A month is 0 to
+ * 1,199, January 2000 to December 2099: 12 x (year - 2000) + n - 1 is the nth of a year. Its first day and the number
+ * of its days, 28 to 31, come with it. lines[i] for i below days is that of day first_day + i: lines[i][k - 1] for type
+ * k of 1 to 20 and lines[i][20] for type 22, in kWh, of types 17 to 20 in kurus. lines[days] has the totals, the lines
+ * after it are 0. Type 6 is here with exports. Withdrawn and cancelled entries and marks count nowhere. A sum is at
+ * most 30,720,000,000,000,000 (3,072 x 10^13; a double holds every whole number to 2^53 only, 9,007,199,254,740,992).
+ * The answer has 5,392 bytes. Causes: 1, 12 (month above 1,199). Changes nothing. New in version 2.2.0: an older copy
+ * has no such call; books and files are the same. */
+fanzsoreb_report fanzsoreb_month_report_words(const uint32_t *book, size_t words, uint32_t month);
+fanzsoreb_report fanzsoreb_month_report(const uint8_t *book, size_t length, uint32_t month);
+
+/* The place of a type's sum in a line of a month report: 0 to 19 for types 1 to 20, 20 for 22. Another type has none:
+ * FANZSOREB_REPORT_SUMS. */
+static inline uint32_t fanzsoreb_report_place(uint32_t entry_type)
+{
+    if (entry_type == FANZSOREB_UPDATED_GENERATION_PROGRAM)
+        return FANZSOREB_REPORT_SUMS - 1;
+    return entry_type >= 1 && entry_type <= 20 ? entry_type - 1 : FANZSOREB_REPORT_SUMS;
+}
 
 /* 1 if a balance, of any value, is detected: above zero. Else 0: zero is clear. */
 uint32_t fanzsoreb_detected(int64_t balance);
@@ -400,6 +431,12 @@ static inline fanzsoreb_balance fanzsoreb_delivery_any(const void *book, size_t 
     return fanzsoreb_is_aligned(book, length)
                ? fanzsoreb_delivery_words((const uint32_t *)book, length / 4, party, day)
                : fanzsoreb_delivery((const uint8_t *)book, length, party, day);
+}
+static inline fanzsoreb_report fanzsoreb_month_report_any(const void *book, size_t length, uint32_t month)
+{
+    return fanzsoreb_is_aligned(book, length)
+               ? fanzsoreb_month_report_words((const uint32_t *)book, length / 4, month)
+               : fanzsoreb_month_report((const uint8_t *)book, length, month);
 }
 static inline fanzsoreb_controlled fanzsoreb_control_any(void *book, size_t length, uint32_t day)
 {

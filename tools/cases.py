@@ -1,5 +1,7 @@
-"""For test-balance, test-month-table and test-branches: what a program writes, and a count of what is as due."""
+"""For the tests beside it: what a program writes, also where a read or a write fails, and a count of what is as due."""
 import os
+import resource
+import signal
 import subprocess
 import tempfile
 
@@ -22,6 +24,52 @@ def written(program, source, before=None, arguments=()):
         errors, status = run(program, source, out, before, arguments)
         out.seek(0)
         return out.read(), errors, status
+
+
+def broken_pipe():
+    """A pipe that nobody reads."""
+    read, write = os.pipe()
+    os.close(read)
+    return write
+
+
+def ignore(number):
+    return lambda: signal.signal(number, signal.SIG_IGN)
+
+
+def most_bytes(count):
+    """A write past a file's limit fails, after the bytes that fit."""
+    ignore(signal.SIGXFSZ)()
+    resource.setrlimit(resource.RLIMIT_FSIZE, (count, count))
+
+
+def lent(data):
+    """A file with these bytes, to be read from its start."""
+    file = tempfile.TemporaryFile()
+    file.write(data)
+    file.seek(0)
+    return file
+
+
+def failures(program, data, text, arguments=()):
+    """The program reads these bytes and writes this text, unless a read or a write fails: what is found, and what is due."""
+    name = os.path.basename(program).encode()
+    refused, no_read, no_write = b'refused 2\n', name + b': read failed\n', name + b': write failed\n'
+
+    def to(sink, source=None, before=None):
+        return run(program, source or lent(data), sink, before, arguments)
+
+    with open('/dev/full', 'wb') as full:
+        folder = os.open('/', os.O_RDONLY)
+        yield 'a file is read and reported on', written(program, lent(data), None, arguments), (text, b'', 0)
+        yield 'a read of a directory fails', written(program, folder, None, arguments), (refused, no_read, 0)
+        yield 'standard input is closed', written(program, None, None, arguments), (refused, no_read, 0)
+        yield 'a write to a full disk fails', to(full), (no_write, 0)
+        yield 'a write fails after ten bytes', written(program, lent(data), lambda: most_bytes(10), arguments), (text[:10], no_write, 0)
+        yield 'standard output is closed', to(None), (no_write, 0)
+        yield 'a read and the write of its refusal fail', to(full, folder), (no_read + no_write, 0)
+        yield 'a pipe is closed, its signal ignored', to(broken_pipe(), before=ignore(signal.SIGPIPE)), (no_write, 0)
+        yield 'a pipe is closed, its signal not ignored', to(broken_pipe()), (b'', -signal.SIGPIPE)
 
 
 def shown(value):

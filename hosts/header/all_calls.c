@@ -15,6 +15,7 @@
 #include "positions.h"
 #include "collaterals.h"
 #include "days.h"
+#include "reports.h"
 #include "lengths.h"
 #include "threads.h"
 #include "stacks.h"
@@ -65,8 +66,12 @@ static void at_offset(size_t offset)
     reads_a_file(offset);
     files_of_larger_money(offset);
     files_of_updates(offset);
-    largest_trading(offset);
     files_refused(offset);
+    reports(offset);
+    reported_months(offset);
+    reported_types(offset);
+    reports_refused(offset);
+    largest_report(offset);
     shortest(offset);
     if (by != WORDS) {
         odd_lengths(offset);

@@ -14,18 +14,23 @@
     HELD(type##_##field, offsetof(type, field) == (place) && sizeof(((type *)0)->field) == (bytes))
 #define VALUE(name, value) HELD(name##_value, (name) == (value))
 
-VALUE(FANZSOREB_VERSION, 20101);
+VALUE(FANZSOREB_VERSION, 20200);
 VALUE(FANZSOREB_MOST_ENTRIES, 3072);
 VALUE(FANZSOREB_BOOK_WORDS, 3 + 5 * 3072);
 VALUE(FANZSOREB_BOOK_BYTES, 4 * (3 + 5 * 3072));
 VALUE(FANZSOREB_MOST_FILE_BYTES, 65536);
 VALUE(FANZSOREB_HORIZON_MONTHS, 4800);
+VALUE(FANZSOREB_REPORT_MONTHS, 1200);
+VALUE(FANZSOREB_REPORT_LINES, 32);
+VALUE(FANZSOREB_REPORT_SUMS, 21);
 
 VALUE(FANZSOREB_STACK_FIGURES, 16 * 1024);
 VALUE(FANZSOREB_STACK_WORDS, 16 * 1024);
+VALUE(FANZSOREB_STACK_REPORT_WORDS, 32 * 1024);
 VALUE(FANZSOREB_STACK_FILE_WORDS, 48 * 1024);
 VALUE(FANZSOREB_STACK_CONTROL_WORDS, 152 * 1024);
 VALUE(FANZSOREB_STACK_BOOK, 80 * 1024);
+VALUE(FANZSOREB_STACK_REPORT, 112 * 1024);
 VALUE(FANZSOREB_STACK_FILE, 112 * 1024);
 VALUE(FANZSOREB_STACK_CONTROL, 216 * 1024);
 VALUE(FANZSOREB_STACK_MONTH, 24 * 1024);
@@ -120,6 +125,15 @@ AT(fanzsoreb_ceiling_answer, recordable, 4, 4);
 SIZE(fanzsoreb_first_day_answer, 8);
 AT(fanzsoreb_first_day_answer, answer, 0, 4);
 AT(fanzsoreb_first_day_answer, day, 4, 4);
+
+SIZE(fanzsoreb_report, 16 + 8 * 32 * 21);
+AT(fanzsoreb_report, answer, 0, 4);
+AT(fanzsoreb_report, month, 4, 4);
+AT(fanzsoreb_report, first_day, 8, 4);
+AT(fanzsoreb_report, days, 12, 4);
+AT(fanzsoreb_report, lines, 16, 5376);
+HELD(report_line, sizeof(((fanzsoreb_report *)0)->lines[0]) == 8 * FANZSOREB_REPORT_SUMS);
+HELD(report_lines, sizeof(((fanzsoreb_report *)0)->lines) == 8 * FANZSOREB_REPORT_SUMS * FANZSOREB_REPORT_LINES);
 
 SIZE(fanzsoreb_controlled, 16);
 AT(fanzsoreb_controlled, answer, 0, 4);

@@ -8,6 +8,7 @@ static void shortest(size_t offset)
         REFUSED(way_open(book, lent, 1001, 0), FANZSOREB_BAD_LENGTH);
         REFUSED(way_open_default(book, lent), FANZSOREB_BAD_LENGTH);
         REFUSED(way_count(book, lent).answer, FANZSOREB_NOT_A_BOOK);
+        REFUSED(report_cause(1200), FANZSOREB_NOT_A_BOOK);
     }
     REFUSED(way_open(book, 12, 1001, 0), FANZSOREB_BAD_FIGURE);
     put(0, 0x60000000);
@@ -57,6 +58,7 @@ static void odd_lengths(size_t offset)
         REFUSED(entry_cause(7), FANZSOREB_NOT_A_BOOK);
         REFUSED(tally_cause(0, 36525), FANZSOREB_NOT_A_BOOK);
         REFUSED(balance_cause(0, 36525), FANZSOREB_NOT_A_BOOK);
+        REFUSED(report_cause(1200), FANZSOREB_NOT_A_BOOK);
         REFUSED(collateral_cause(&c), FANZSOREB_NOT_A_BOOK);
         REFUSED(by_figures(lent).answer, FANZSOREB_NOT_A_BOOK);
         REFUSED(control_cause(36525), FANZSOREB_NOT_A_BOOK);
@@ -115,6 +117,7 @@ static void null_pointers(void)
     CHECK(way_tally(NULL, 0, 0, 0).answer == FANZSOREB_NOT_A_BOOK);
     CHECK(way_day_ahead(NULL, 0, 0, 0).answer == FANZSOREB_NOT_A_BOOK);
     CHECK(way_delivery(NULL, 0, 0, 0).answer == FANZSOREB_NOT_A_BOOK);
+    CHECK(way_month_report(NULL, 0, 1200).answer == FANZSOREB_NOT_A_BOOK);
     CHECK(way_month(NULL, 0, NULL, 0, 1, NULL, 0, 0).answer == FANZSOREB_DONE);
     CHECK(way_collateral(NULL, 0, &c).answer == FANZSOREB_NOT_A_BOOK);
     CHECK(way_control(NULL, 0, 0).answer == FANZSOREB_NOT_A_BOOK);

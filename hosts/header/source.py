@@ -9,9 +9,10 @@ STRUCTS = {
     "Posted": "posted", "Counted": "counted", "EntryRead": "entry_read", "BalanceAnswer": "balance", "Tally": "sums",
     "TallyAnswer": "tally_answer", "Month": "month_figures", "MonthAnswer": "month_answer",
     "CeilingAnswer": "ceiling_answer", "FirstDayAnswer": "first_day_answer", "Controlled": "controlled",
-    "FileRead": "file_read", "Collateral": "collateral_answer",
+    "FileRead": "file_read", "Collateral": "collateral_answer", "MonthReport": "report",
 }
 LENGTHS = {}  # lengths of arrays by the names of their constants
+LINES = {"REPORT_FIGURES": "LINE_SUMS"}  # of lines one after the other, in C an array of lines: the length of a line
 
 
 def c_type(rattle):
@@ -28,10 +29,18 @@ def c_parameter(text):
     return ("" if slice_of[1] else "const ") + c_type(slice_of[2]) + " *" + name + ", size_t " + length
 
 
+def c_lengths(length):
+    if length not in LINES:
+        return "[" + LENGTHS.get(length, length) + "]"
+    lines, left = divmod(int(LENGTHS[length]), int(LENGTHS[LINES[length]]))
+    assert left == 0, length
+    return "[" + str(lines) + "][" + LENGTHS[LINES[length]] + "]"
+
+
 def c_field(text):
     name, rattle = re.fullmatch(r"pub (\w+): (.+)", text.strip()).groups()
     array = re.fullmatch(r"\[(\w+); (\w+)\]", rattle)
-    return c_type(array[1]) + " " + name + "[" + LENGTHS.get(array[2], array[2]) + "]" if array else c_type(rattle) + " " + name
+    return c_type(array[1]) + " " + name + c_lengths(array[2]) if array else c_type(rattle) + " " + name
 
 
 def parts(text):

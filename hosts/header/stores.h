@@ -19,6 +19,7 @@ static const kept keeps[] = {
     KEPT(day_ahead_words, DONE, 0, PAGES),
     KEPT(delivery_words, DONE, 0, PAGES),
     KEPT(collateral_words, DONE, 0, PAGES),
+    KEPT(month_report_words, DONE, 0, PAGES),
     KEPT(no_words_for_a_file, NOT_A_BOOK, 0, PAGES),
     KEPT(no_words_to_control, NOT_A_BOOK, 0, PAGES),
     KEPT(no_day_to_control_words, BAD_DAY, 0, PAGES)

@@ -15,6 +15,7 @@ static void *read_often(void *faults)
         *wrong += way_day_ahead(book, lent, 5, 99).balance != -50000000;
         *wrong += way_delivery(book, lent, 5, 99).balance != -50000000;
         *wrong += way_collateral(book, lent, &c).total != 1385887;
+        *wrong += way_month_report(book, lent, 3).lines[30][16] != 1000000006000; /* days 91 to 120 */
     }
     return NULL;
 }

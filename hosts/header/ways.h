@@ -93,6 +93,12 @@ static fanzsoreb_balance way_delivery(const uint8_t *at, size_t length, uint32_t
                   fanzsoreb_delivery(at, length, party, day), fanzsoreb_delivery_any(at, length, party, day));
 }
 
+static fanzsoreb_report way_month_report(const uint8_t *at, size_t length, uint32_t month)
+{
+    return CHOSEN(fanzsoreb_month_report_words(of_words(at), words_of(length), month),
+                  fanzsoreb_month_report(at, length, month), fanzsoreb_month_report_any(at, length, month));
+}
+
 /* Lengths in bytes, of which words are four each. */
 static fanzsoreb_month_answer way_month(const uint8_t *prices, size_t prices_length, const uint8_t *imbalance,
                                         size_t imbalance_length, uint32_t rows, const uint8_t *dm, size_t dm_length,

@@ -1,5 +1,5 @@
 -- Laws of months: their lengths, their starts, and the month of a day. Assumes nothing.
-use mathlib.Core.Path.{_≡_, refl, sym, _∙_, ap, subst⁻¹}
+use mathlib.Core.Path.{_≡_, refl, sym, _∙_, ap, subst, subst⁻¹}
 use mathlib.Core.Logic.{inl, inr}
 use mathlib.Core.Bool.{Bool, true, false, cond, _||_}
 use Prim.Native.Nat.{ℕ, zero, suc, _+_, _-_, _≤_, _<_, zero-le}
@@ -111,6 +111,21 @@ month-holds d h =
     let r = held months d (omega (arith, start-end)) in
     subst⁻¹ (InMonth d) (month-unique (r .0) d (r .1) (r .2) (r .3))
     (record { below = r .1; from = r .2; until = r .3 })
+
+-- the days of a month of the table
+pub month-days : (m d : ℕ) → m < months → monthOf d ≡ m → (monthStart m ≤ d) × (d < monthStart m + monthLength m)
+month-days m d h e =
+    elim (bool-cases (ltb d days)) [
+      | inl t ↦ (let r = subst (InMonth d) e (month-holds d (ltb-true d days t)) in omega (arith, start-step m))
+      | inr t ↦ absurd (omega (arith, month-past d (ltb-false d days t)))
+    ]
+
+pub month-day : (m d : ℕ) → m < months → monthStart m ≤ d → d < monthStart m + monthLength m → monthOf d ≡ m
+month-day m d h low high = month-unique m d h low (omega (arith, start-step m))
+
+-- and none lies past the table
+pub month-last : (m d : ℕ) → m < months → d < monthStart m + monthLength m → d < days
+month-last m d h high = omega (arith, start-step m, start-mono (suc m) months h, start-end)
 
 pub month-most : (d : ℕ) → monthOf d ≤ months
 month-most d =

@@ -34,7 +34,7 @@ pub fn told(s: Score, line: u64, ok: bool) -> Score {
     t
 }
 
-fn print_counts(checks: u64, wrong: u64) {
+pub fn print_counts(checks: u64, wrong: u64) {
     io::print_decimal(STDOUT_FILENO, checks);
     io::write_all(STDOUT_FILENO, b" checks, ");
     io::print_decimal(STDOUT_FILENO, wrong);

@@ -10,7 +10,7 @@ use lib.ListN.{length}
 use borrow.Author.Tests.{leb-true, le-leb, lt-leb}
 use Rattle.numbers.specs.Causes.{unless, orElse, firstOf, ifDone}
 use Rattle.numbers.proofs.TestLaws.{every-holds}
-use Rattle.numbers.proofs.CauseLaws.{else-stop, else-none}
+use Rattle.numbers.proofs.CauseLaws.{else-stop, else-none, done-else}
 use Rattle.rules.specs.Entry.{Record, fault}
 use Rattle.rules.specs.Words.{isBook, entries, countOf, roomIn}
 use Rattle.rules.specs.Book.{shutTo}
@@ -79,3 +79,15 @@ module _ (ws bs : List ℕ) (cs : List Bool) (book : isBook ws ≡ true) (shaped
     answer-done z h =
         scan
         ∙ answer-by (cause-of-file ∙ rw (← first, z, le-leb (countOf ws + linesIn) (roomIn (length ws)) (rw (← lines z) h))) (rw (← first, z))
+
+-- what is told of a file by the answer to it: something where it is posted, else of its cause
+module _ (ws bs : List ℕ) {r : FileRead} (e : r ≡ fileAnswer ws bs) where
+  pub cause-told : causeOf ws (file bs) ≡ r .answer
+  cause-told = sym (ap (λ x. x .answer) e)
+
+  module _ {A : Type 0} (new : A) (old : ℕ → A) where
+    pub told-refused : (r .answer ≡ 0 → ⊥) → ifDone (causeOf ws (file bs)) new (old (causeOf ws (file bs))) ≡ old (r .answer)
+    told-refused n = rw cause-told (done-else (r .answer) new (old (r .answer)) n)
+
+    pub told-done : r .answer ≡ 0 → ifDone (causeOf ws (file bs)) new (old (causeOf ws (file bs))) ≡ new
+    told-done z = rw (cause-told, z)

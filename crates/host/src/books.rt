@@ -8,11 +8,8 @@ ghost use Rattle.rules.specs.Book.{openCause, openWords, openDefaultCause, open
 ghost use Rattle.rules.specs.Calls.{causeOf, wordsAfter, postAnswer};
 ghost use Rattle.rules.specs.Calls as calls;
 ghost use Rattle.word_bytes.specs.Bytes.{onWords, withWords, yesNo};
-use byte_calls::changes;
-use byte_calls::changes::Request;
-use byte_calls::openings;
-use byte_calls::reads;
-use byte_calls::reads::Question;
+use byte_changes::Request;
+use byte_questions::Question;
 use rules::Counted;
 use rules::EntryRead;
 use rules::Key;
@@ -23,7 +20,7 @@ use rules::Posted;
 pub extern "C" fn fanzsoreb_is_book(book: &[u8]) -> u32
     ensures { λ r. ⌜ r ≡ onWords (now (book .entry)) (λ ws. yesNo (isBook ws)) 0 ⌝ }
 {
-    let reply = reads::ask(book, Question::Count);
+    let reply = byte_questions::ask(book, Question::Count);
     (reply.counted.answer == 0) as u32
 }
 
@@ -33,7 +30,7 @@ pub extern "C" fn fanzsoreb_open(book: &mut [u8], coefficient: u32, tolerance: u
     ensures answer { λ r. ⌜ r ≡ onWords (now (book .entry)) (λ ws. openCause (length ws) coefficient tolerance) notABook ⌝ }
     ensures bytes { λ r. ⌜ now (book .exit) ≡ withWords (now (book .entry)) (λ ws. openWords ws coefficient tolerance) ⌝ }
 {
-    openings::open(book, coefficient, tolerance)
+    byte_openings::open(book, coefficient, tolerance)
 }
 
 // Opens a book with the figures of an opening that names none.
@@ -42,7 +39,7 @@ pub extern "C" fn fanzsoreb_open_default(book: &mut [u8]) -> u32
     ensures answer { λ r. ⌜ r ≡ onWords (now (book .entry)) (λ ws. openDefaultCause (length ws)) notABook ⌝ }
     ensures bytes { λ r. ⌜ now (book .exit) ≡ withWords (now (book .entry)) openDefaultWords ⌝ }
 {
-    openings::open_default(book)
+    byte_openings::open_default(book)
 }
 
 // Appends one standing entry and answers its number, counted from 0.
@@ -64,7 +61,7 @@ pub extern "C" fn fanzsoreb_post(
         entry_type,
         counterparty,
     };
-    let done = changes::change(book, Request::Post(key, amount));
+    let done = byte_changes::change(book, Request::Post(key, amount));
     Posted {
         answer: done.answer,
         number: done.number,
@@ -77,7 +74,7 @@ pub extern "C" fn fanzsoreb_withdraw(book: &mut [u8], number: u32) -> u32
     ensures answer { λ r. ⌜ r ≡ onWords (now (book .entry)) (λ ws. causeOf ws (calls.withdraw number)) notABook ⌝ }
     ensures bytes { λ r. ⌜ now (book .exit) ≡ withWords (now (book .entry)) (λ ws. wordsAfter ws (calls.withdraw number)) ⌝ }
 {
-    let done = changes::change(book, Request::Withdraw(number));
+    let done = byte_changes::change(book, Request::Withdraw(number));
     done.answer
 }
 
@@ -86,7 +83,7 @@ pub extern "C" fn fanzsoreb_withdraw(book: &mut [u8], number: u32) -> u32
 pub extern "C" fn fanzsoreb_count(book: &[u8]) -> Counted
     ensures { λ r. ⌜ r ≡ onWords (now (book .entry)) countAnswer (record { answer = notABook; count = 0 }) ⌝ }
 {
-    let reply = reads::ask(book, Question::Count);
+    let reply = byte_questions::ask(book, Question::Count);
     reply.counted
 }
 
@@ -95,6 +92,6 @@ pub extern "C" fn fanzsoreb_count(book: &[u8]) -> Counted
 pub extern "C" fn fanzsoreb_entry(book: &[u8], number: u32) -> EntryRead
     ensures { λ r. ⌜ r ≡ onWords (now (book .entry)) (λ ws. readAnswer ws number) (noRead notABook) ⌝ }
 {
-    let reply = reads::ask(book, Question::Entry(number));
+    let reply = byte_questions::ask(book, Question::Entry(number));
     reply.entry
 }

@@ -4,7 +4,7 @@ ghost use Rattle.rules.specs.Refusals.{notABook};
 ghost use Rattle.rules.specs.Collateral.{collateralAnswer, refusedCollateral};
 ghost use Rattle.word_bytes.specs.Bytes.{onWords};
 ghost use Rattle.collateral_case.specs.Cases.{caseOf};
-use byte_calls::collaterals;
+use byte_reports::collaterals;
 use rules::Collateral;
 
 // Each item of collateral and the total of a case.

@@ -4,9 +4,7 @@ ghost use Rattle.rules.specs.Refusals.{notABook};
 ghost use Rattle.rules.specs.Calls.{wordsAfter, controlAnswer, fileAnswer};
 ghost use Rattle.rules.specs.Calls as calls;
 ghost use Rattle.word_bytes.specs.Bytes.{onWords, withWords};
-use byte_calls::changes;
-use byte_calls::changes::Request;
-use byte_calls::files;
+use byte_changes::Request;
 use rules::Controlled;
 use rules::FileRead;
 
@@ -16,7 +14,7 @@ pub extern "C" fn fanzsoreb_read_file(book: &mut [u8], file: &[u8]) -> FileRead
     ensures answer { λ r. ⌜ r ≡ onWords (now (book .entry)) (λ ws. fileAnswer ws (now (file .entry))) (record { answer = notABook; posted = 0 }) ⌝ }
     ensures bytes { λ r. ⌜ now (book .exit) ≡ withWords (now (book .entry)) (λ ws. wordsAfter ws (calls.file (now (file .entry)))) ⌝ }
 {
-    files::read(book, file)
+    byte_files::read(book, file)
 }
 
 // Cancels the bilateral sales of detected parties and closes the day.
@@ -25,7 +23,7 @@ pub extern "C" fn fanzsoreb_control(book: &mut [u8], day: u32) -> Controlled
     ensures answer { λ r. ⌜ r ≡ onWords (now (book .entry)) (λ ws. controlAnswer ws day) (record { answer = notABook; first = 0; second = 0; cancelled = 0 }) ⌝ }
     ensures bytes { λ r. ⌜ now (book .exit) ≡ withWords (now (book .entry)) (λ ws. wordsAfter ws (calls.control day)) ⌝ }
 {
-    let done = changes::change(book, Request::Control(day));
+    let done = byte_changes::change(book, Request::Control(day));
     Controlled {
         answer: done.answer,
         first: done.first,

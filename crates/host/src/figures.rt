@@ -7,12 +7,12 @@ use rules::CeilingAnswer;
 use rules::FirstDayAnswer;
 
 // Major × 10,000 + minor × 100 + patch.
-const VERSION: u32 = 20101;
+const VERSION: u32 = 20200;
 
 // The version of the calls.
 #[no_mangle]
 pub extern "C" fn fanzsoreb_version() -> u32
-    ensures { λ r. ⌜ r ≡ 2 * 10000 + 1 * 100 + 1 ⌝ }
+    ensures { λ r. ⌜ r ≡ 2 * 10000 + 2 * 100 + 0 ⌝ }
 {
     VERSION
 }

@@ -9,6 +9,7 @@ ghost use Rattle.rules.specs.Calls.{causeOf, wordsAfter, postAnswer, controlAns
 ghost use Rattle.rules.specs.Calls as calls;
 ghost use Rattle.rules.specs.Collateral.{collateralAnswer};
 ghost use Rattle.rules.specs.Month.{tablesOf, monthAnswer};
+ghost use Rattle.rules.specs.MonthReport.{monthReport};
 ghost use Rattle.word_bytes.specs.Bytes.{yesNo};
 ghost use Rattle.collateral_case.specs.Cases.{caseOf};
 use rules::BalanceAnswer;
@@ -19,6 +20,7 @@ use rules::EntryRead;
 use rules::FileRead;
 use rules::Key;
 use rules::MonthAnswer;
+use rules::MonthReport;
 use rules::Posted;
 use rules::TallyAnswer;
 
@@ -148,7 +150,7 @@ pub extern "C" fn fanzsoreb_month_words(
 ) -> MonthAnswer
     ensures { λ r. ⌜ r ≡ monthAnswer (tablesOf (now (prices .entry)) (now (imbalance .entry)) rows (now (dm .entry)) group) ⌝ }
 {
-    month::month_step(prices, imbalance, rows, dm, group)
+    month_step::month_step(prices, imbalance, rows, dm, group)
 }
 
 // Each item of collateral and the total of a case.
@@ -201,4 +203,12 @@ pub extern "C" fn fanzsoreb_collateral_words(
         best,
     );
     collateral::collateral(book, case)
+}
+
+// All parties' sums of each day of a month and type, and the month's totals.
+#[no_mangle]
+pub extern "C" fn fanzsoreb_month_report_words(book: &[u32], month: u32) -> MonthReport
+    ensures { λ r. ⌜ r ≡ monthReport (now (book .entry)) month ⌝ }
+{
+    month_report::month_report(book, month)
 }

@@ -6,3 +6,4 @@ pub mod figures;
 pub mod in_words;
 pub mod months;
 pub mod positions;
+pub mod reports;

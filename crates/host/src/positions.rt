@@ -4,8 +4,7 @@ ghost use lib.IntN.{pos};
 ghost use Rattle.rules.specs.Refusals.{notABook};
 ghost use Rattle.rules.specs.Balance.{tallyAnswer, balanceAnswer, isDetected, dayAhead, delivery, noTally};
 ghost use Rattle.word_bytes.specs.Bytes.{onWords, yesNo};
-use byte_calls::reads;
-use byte_calls::reads::Question;
+use byte_questions::Question;
 use rules::BalanceAnswer;
 use rules::TallyAnswer;
 
@@ -14,7 +13,7 @@ use rules::TallyAnswer;
 pub extern "C" fn fanzsoreb_tally(book: &[u8], party: u32, day: u32) -> TallyAnswer
     ensures { λ r. ⌜ r ≡ onWords (now (book .entry)) (λ ws. tallyAnswer ws party day) (record { answer = notABook; tally = noTally; bought = 0 }) ⌝ }
 {
-    let reply = reads::ask(book, Question::Tally(party, day));
+    let reply = byte_questions::ask(book, Question::Tally(party, day));
     reply.tallied
 }
 
@@ -23,7 +22,7 @@ pub extern "C" fn fanzsoreb_tally(book: &[u8], party: u32, day: u32) -> TallyAns
 pub extern "C" fn fanzsoreb_day_ahead(book: &[u8], party: u32, day: u32) -> BalanceAnswer
     ensures { λ r. ⌜ r ≡ onWords (now (book .entry)) (λ ws. balanceAnswer dayAhead ws party day) (record { answer = notABook; balance = pos 0 }) ⌝ }
 {
-    let reply = reads::ask(book, Question::DayAhead(party, day));
+    let reply = byte_questions::ask(book, Question::DayAhead(party, day));
     reply.balance
 }
 
@@ -32,7 +31,7 @@ pub extern "C" fn fanzsoreb_day_ahead(book: &[u8], party: u32, day: u32) -> Bala
 pub extern "C" fn fanzsoreb_delivery(book: &[u8], party: u32, day: u32) -> BalanceAnswer
     ensures { λ r. ⌜ r ≡ onWords (now (book .entry)) (λ ws. balanceAnswer delivery ws party day) (record { answer = notABook; balance = pos 0 }) ⌝ }
 {
-    let reply = reads::ask(book, Question::Delivery(party, day));
+    let reply = byte_questions::ask(book, Question::Delivery(party, day));
     reply.balance
 }
 

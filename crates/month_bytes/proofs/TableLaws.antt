@@ -11,8 +11,8 @@ use Rattle.numbers.proofs.TestLaws.{and-split}
 use Rattle.rules.specs.DayFile.{wordsOf}
 use Rattle.rules.specs.Month.{Tables, tablesOf, mostHours, monthAnswer}
 use Rattle.word_bytes.proofs.BytesLaws.{length-words}
-use Rattle.month.specs.Ranges.{placesOk, agree, Placed}
-use Rattle.month.proofs.RangeLaws.{lengths-hold, lengths-refused, tests-decide, refused-answer, no-hours, noTables}
+use Rattle.month_step.specs.Ranges.{placesOk, agree, Placed}
+use Rattle.month_step.proofs.RangeLaws.{lengths-hold, lengths-refused, tests-decide, refused-answer, no-hours, noTables}
 use Rattle.month_bytes.specs.Tables.{figuresOf, tablesIn, refusedMonth, monthOnBytes}
 use Rattle.month_bytes.specs.Parts.{wholeTables, bytesAgree, Hourly}
 use Rattle.month_bytes.proofs.FigureLaws.{length-figures}

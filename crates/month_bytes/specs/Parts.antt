@@ -5,7 +5,7 @@ use mathlib.Core.List.{List, [], _∷_}
 use Prim.Native.Nat.{ℕ, _/_}
 use lib.ListN.{length}
 use Rattle.numbers.specs.Tests.{every}
-use Rattle.month.specs.Ranges.{lengthsAgree}
+use Rattle.month_step.specs.Ranges.{lengthsAgree}
 use Rattle.word_bytes.specs.Bytes.{isWhole}
 
 -- the tables' bytes make whole figures, and their numbers agree

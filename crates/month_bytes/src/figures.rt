@@ -42,7 +42,7 @@ pub fn volumes_ok(bytes: &[u8]) -> bool
     let mut ok = true;
     let mut i = 0;
     while i < figures {
-        ok = ok & month::ranges::volume_ok(figure_at(bytes, i));
+        ok = ok & month_step::ranges::volume_ok(figure_at(bytes, i));
         i += 1;
     }
     ok

@@ -3,7 +3,7 @@ ghost use mathlib.Core.Path.{_≡_};
 ghost use mathlib.Core.Bool.{_&&_};
 ghost use lib.ListN.{length};
 ghost use Rattle.rules.specs.Month.{monthAnswer};
-ghost use Rattle.month.specs.Ranges.{Placed};
+ghost use Rattle.month_step.specs.Ranges.{Placed};
 ghost use Rattle.month_bytes.specs.Tables.{tablesIn, refusedMonth, monthOnBytes};
 ghost use Rattle.month_bytes.specs.Parts.{wholeTables, bytesAgree, Hourly};
 use rules::Month;
@@ -22,7 +22,12 @@ fn lengths_ok(prices: &[u8], imbalance: &[u8], rows: u32, dm: &[u8]) -> bool
     (prices.len() % 4 == 0)
         & (imbalance.len() % 4 == 0)
         & (dm.len() % 4 == 0)
-        & month::ranges::lengths_agree(prices.len() / 4, imbalance.len() / 4, rows, dm.len() / 4)
+        & month_step::ranges::lengths_agree(
+            prices.len() / 4,
+            imbalance.len() / 4,
+            rows,
+            dm.len() / 4,
+        )
 }
 
 // A refusal, or the answer for a month without hours.
@@ -83,7 +88,7 @@ pub fn month_on(prices: &[u8], imbalance: &[u8], rows: u32, dm: &[u8], group: u3
     if !lengths_ok(prices, imbalance, rows, dm) {
         return without_figures(BAD_LENGTH);
     }
-    if !month::ranges::places_ok(rows, group) {
+    if !month_step::ranges::places_ok(rows, group) {
         return without_figures(BAD_FIGURE);
     }
     if prices.len() == 0 {

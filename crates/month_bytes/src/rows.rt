@@ -3,14 +3,14 @@
 ghost use mathlib.Core.Path.{_≡_};
 ghost use lib.ListN.{length};
 ghost use Rattle.rules.specs.Month.{tablesOf, monthCause, monthFigures, monthAnswer};
-ghost use Rattle.month.specs.Ranges.{Placed};
-ghost use Rattle.month.specs.Rows.{PricedRow, DmRow, rowWeighted, rowWeights, rowVolume};
+ghost use Rattle.month_step.specs.Ranges.{Placed};
+ghost use Rattle.month_step.specs.Rows.{PricedRow, DmRow, rowWeighted, rowWeights, rowVolume};
 ghost use Rattle.month_bytes.specs.Tables.{figuresOf};
 use crate::figures::read_figures;
 use crate::figures::volumes_ok;
 use crate::without_figures;
-use month::ranges;
-use month::sums::Sums;
+use month_step::ranges;
+use month_step::sums::Sums;
 use rules::Month;
 use rules::MonthAnswer;
 use rules::causes::BAD_FIGURE;
@@ -56,7 +56,7 @@ fn figures(
         weights += sums.weights;
         place += 1;
     }
-    let aosmf = month::sums::average(weighted, weights);
+    let aosmf = month_step::sums::average(weighted, weights);
     let aedm = row_volume(imbalance, (group as usize) * hours, dm, row);
     Month { aosmf, aedm }
 }
@@ -67,7 +67,7 @@ fn row_sums(prices: &[u32], imbalance: &[u8], at: usize, row: &mut [i32]) -> Sum
     ensures { λ r. ⌜ (r .weighted ≡ rowWeighted (now (prices .entry)) (figuresOf (now (imbalance .entry))) at) × (r .weights ≡ rowWeights (now (prices .entry)) (figuresOf (now (imbalance .entry))) at) ⌝ }
 {
     read_figures(imbalance, at, row);
-    month::sums::row_sums(prices, row, 0)
+    month_step::sums::row_sums(prices, row, 0)
 }
 
 // Σ(imbalance − DM) of the row that starts at a place of the imbalance.
@@ -76,5 +76,5 @@ fn row_volume(imbalance: &[u8], at: usize, dm: &[i32], row: &mut [i32]) -> i64
     ensures { λ r. ⌜ r ≡ rowVolume (figuresOf (now (imbalance .entry))) at (now (dm .entry)) ⌝ }
 {
     read_figures(imbalance, at, row);
-    month::sums::row_volume(row, 0, dm)
+    month_step::sums::row_volume(row, 0, dm)
 }

@@ -29,7 +29,7 @@ fn judged(got: MonthAnswer, r: Row) -> bool {
 }
 
 fn stepped(prices: &[u32], imbalance: &[i32], dm: &[i32], r: Row) -> bool {
-    let got = month::month_step(prices, imbalance, low(r.a), dm, low(r.b));
+    let got = month_step::month_step(prices, imbalance, low(r.a), dm, low(r.b));
     judged(got, r)
 }
 

@@ -6,13 +6,16 @@ use Prim.Native.Nat.{ℕ, zero, suc, _+_, _<_}
 use native.Mathlib.Omega.{arith}
 use lib.Dec.{eqb}
 use lib.ListN.{length, getD, set, drop, replicate}
-use lib.Seq.{drop-append-add, getD-set-same, getD-set-other}
+use lib.Seq.{drop-append-add, getD-append-add, getD-set-same, getD-set-other}
 use borrow.Author.Tests.{eqb-true, eqb-false}
 use Rattle.numbers.proofs.TestLaws.{bool-cases}
 
 module _ {A : Type 0} where
   pub drop-past : (p q : List A) (n m : ℕ) → length p ≡ n → drop (n + m) (p ++ q) ≡ drop m q
   drop-past p q n m e = rw (← e) (drop-append-add p q m)
+
+  pub getD-past : (p q : List A) (n m : ℕ) (x : A) → length p ≡ n → getD (p ++ q) (n + m) x ≡ getD q m x
+  getD-past p q n m x e = rw (← e) (getD-append-add p q m x)
 
   -- equal members, and the same past the end
   pub getD-blank : (n i : ℕ) (x : A) → getD (replicate n x) i x ≡ x

@@ -1,7 +1,7 @@
 -- How long a report is: every report is within `mostText`. Assumes nothing.
 use mathlib.Core.Path.{_≡_, refl, _∙_, ap}
 use mathlib.Core.Bool.{Bool, true, false, cond}
-use mathlib.Core.List.{List, [], _∷_, _++_}
+use mathlib.Core.List.{List, [], _∷_}
 use Prim.Native.Nat.{ℕ, zero, suc, _+_, _*_, _≤_, _<_, zero-le}
 use native.Mathlib.Omega.{arith}
 use lib.IntN.{ℤ}
@@ -10,9 +10,9 @@ use Rattle.rules.specs.DayFile.{wordsOf, items, fileNames}
 use Rattle.rules.specs.Calls.{file, causeOf, wordsAfter}
 use Rattle.dayfile.proofs.AnswerLaws.{file-bytes}
 use Rattle.rules.proofs.CallLaws.{file-passes}
-use Rattle.text.specs.Text.{eachFrom}
-use Rattle.text.proofs.TextLaws.{decimal-below, decimal-most, signed-most}
-use Rattle.report.specs.Report.{header, refusal, lineText, lineOf, partyLines, allLines, reportInto, reportOn, mostText}
+use Rattle.text.specs.Text.{eachFrom, refusal}
+use Rattle.text.proofs.TextLaws.{decimal-below, signed-most, refusal-most}
+use Rattle.report.specs.Report.{header, lineText, lineOf, partyLines, allLines, reportInto, reportOn, mostText}
 use Rattle.report.proofs.PairLaws.{sumFrom, from-times, pairs, named}
 
 -- a line: three digits of a party, five of a day, twenty-one bytes of a balance, and what stands after each
@@ -61,10 +61,6 @@ words-long (a ∷ b ∷ c ∷ d ∷ bs) = omega (arith, words-long bs)
 file-pairs : (n j m k : ℕ) (bs : List ℕ) → 8 * pairs n j m k (fileNames bs) ≤ length bs
 unfolding fileNames items
 file-pairs n j m k bs = omega (arith, named n j m k (wordsOf bs), words-long bs)
-
-refusal-most : (c : ℕ) → length (refusal c) ≤ 29
-unfolding refusal
-refusal-most c = simp length-append (omega (arith, decimal-most c))
 
 pub refusal-fits : (c : ℕ) → length (refusal c) ≤ mostText
 refusal-fits c = omega (arith, refusal-most c)

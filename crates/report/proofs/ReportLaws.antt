@@ -1,5 +1,5 @@
 -- Laws of the report: its lines by what the file names, and its balances. Assumes nothing.
-use mathlib.Core.Path.{_≡_, refl, sym, _∙_, ap}
+use mathlib.Core.Path.{_≡_, refl, _∙_, ap}
 use mathlib.Core.Bool.{Bool, true, false, cond}
 use mathlib.Core.List.{List, [], _++_}
 use Prim.Native.Nat.{ℕ, _+_, _<_}
@@ -7,11 +7,11 @@ use native.Mathlib.Omega.{arith}
 use lib.IntN.{ℤ}
 use lib.ListN.{getD}
 use borrow.Author.Tests.{le-leb}
-use Rattle.numbers.proofs.CauseLaws.{done-else}
 use Rattle.rules.specs.DayFile.{fileNames}
-use Rattle.rules.specs.Calls.{file, causeOf, wordsAfter, fileAnswer}
+use Rattle.rules.specs.Calls.{file, wordsAfter, fileAnswer}
 use Rattle.rules.specs.declared.FileRead.{FileRead}
 use Rattle.rules.proofs.CallLaws.{done-stays}
+use Rattle.dayfile.proofs.AnswerLaws.{cause-told, told-refused, told-done}
 use Rattle.file_names.specs.Names.{namesParty}
 use Rattle.file_names.proofs.NameLaws.{not-named}
 use Rattle.rules.specs.Words.{isBook, entries, coefficientOf, toleranceOf}
@@ -19,10 +19,10 @@ use Rattle.rules.specs.Balance.{Volume, balanceOf, balanceAnswer, partyDayCause
 use Rattle.rules.specs.declared.TallyAnswer.{TallyAnswer}
 use Rattle.tally.specs.Scan.{scanned}
 use Rattle.position.proofs.AnswerLaws.{no-cause, balance-done}
-use Rattle.text.specs.Text.{eachFrom}
+use Rattle.text.specs.Text.{eachFrom, refusal}
 use Rattle.text.proofs.TextLaws.{each-same, each-none}
 use Rattle.report.specs.Asked.{Asked}
-use Rattle.report.specs.Report.{partyLines, allLines, lineOf, header, refusal, reportInto}
+use Rattle.report.specs.Report.{partyLines, allLines, lineOf, header, reportInto}
 
 -- a party that the file does not name has no line
 pub no-lines : (bs ws : List ℕ) (p : ℕ) → namesParty bs p ≡ false → partyLines bs ws p ≡ []
@@ -36,19 +36,16 @@ table-lines bs ws p days t = each-same _ _ 36525 0 (λ d h. rw (t d (omega arith
 
 -- the report by the answer to the file
 module _ (ws bs : List ℕ) {r : FileRead} (e : r ≡ fileAnswer ws bs) where
-  cause-is : causeOf ws (file bs) ≡ r .answer
-  cause-is = sym (ap (λ x. x .answer) e)
-
   pub report-refused : (r .answer ≡ 0 → ⊥) → reportInto ws bs ≡ refusal (r .answer)
   unfolding reportInto
-  report-refused n = rw cause-is (done-else (r .answer) _ _ n)
+  report-refused n = told-refused ws bs e _ refusal n
 
   pub report-done : r .answer ≡ 0 → reportInto ws bs ≡ header ++ allLines bs (wordsAfter ws (file bs))
   unfolding reportInto
-  report-done z = rw (cause-is, z)
+  report-done z = told-done ws bs e _ refusal z
 
   pub report-book : r .answer ≡ 0 → isBook (wordsAfter ws (file bs)) ≡ true
-  report-book z = done-stays ws (file bs) (cause-is ∙ z) .is-book
+  report-book z = done-stays ws (file bs) (cause-told ws bs e ∙ z) .is-book
 
 -- a balance asked of a book, for a party and a day in their ranges, is not refused
 pub asked-cause : {ws : List ℕ} {p d : ℕ} → Asked ws p d → 0 ≡ partyDayCause ws p d

@@ -12,16 +12,12 @@ use Rattle.rules.specs.Book.{openDefaultWords}
 use Rattle.rules.specs.Balance.{balanceAnswer, dayAhead, delivery}
 use Rattle.rules.specs.DayFile.{fileNames}
 use Rattle.rules.specs.Calls.{file, causeOf, wordsAfter}
-use Rattle.text.specs.Text.{decimal, signed, eachFrom}
+use Rattle.text.specs.Text.{decimal, signed, eachFrom, refusal}
 
 -- party day ahead delivery
 abbrev pub header : List ℕ
 header =
     112 ∷ 97 ∷ 114 ∷ 116 ∷ 121 ∷ 32 ∷ 100 ∷ 97 ∷ 121 ∷ 32 ∷ 97 ∷ 104 ∷ 101 ∷ 97 ∷ 100 ∷ 32 ∷ 100 ∷ 101 ∷ 108 ∷ 105 ∷ 118 ∷ 101 ∷ 114 ∷ 121 ∷ 10 ∷ []
-
--- refused, a space and the number
-unfoldable pub refusal : ℕ → List ℕ
-refusal cause = (114 ∷ 101 ∷ 102 ∷ 117 ∷ 115 ∷ 101 ∷ 100 ∷ 32 ∷ []) ++ decimal cause ++ (10 ∷ [])
 
 -- party, day and two balances, with a space between them
 unfoldable pub lineText : ℕ → ℕ → ℤ → ℤ → List ℕ

@@ -1,7 +1,7 @@
 // What the program `balance` prints, as a function on slices (01, 'Day file').
 ghost use mathlib.Core.Path.{_≡_};
 ghost use mathlib.Core.Bool.{true, false, cond};
-ghost use mathlib.Core.List.{[], _∷_, _++_};
+ghost use mathlib.Core.List.{[], _++_};
 ghost use Prim.Native.Nat.{ℕ, _+_, _≤_, _<_};
 ghost use lib.ListN.{length, getD};
 ghost use Rattle.rules.specs.Entry.{lastParty, dayPlaces, partyPlaces};
@@ -10,7 +10,7 @@ ghost use Rattle.rules.specs.Book.{openDefaultWords};
 ghost use Rattle.file_names.specs.Names.{namesParty};
 ghost use Rattle.text.specs.Text.{eachFrom, Wrote, Whole};
 ghost use Rattle.report.specs.Asked.{Asked};
-ghost use Rattle.report.specs.Report.{header, refusal, lineText, lineOf, partyLines, allLines, reportInto, reportOn, mostText};
+ghost use Rattle.report.specs.Report.{header, lineText, lineOf, partyLines, allLines, reportInto, reportOn, mostText};
 use rules::bounds::DAYS;
 use rules::bounds::NUMBERS;
 use rules::layout::BOOK_WORDS;
@@ -146,22 +146,13 @@ fn put_table(book: &[u32], file: &[u8], out: &mut [u8]) -> usize
     put_table_with(book, file, &mut parties, out)
 }
 
-// One line for a refusal, as much of it as fits.
-pub fn refused(cause: u32, out: &mut [u8]) -> usize
-    ensures { λ r. ⌜ Wrote (now (out .entry)) 0 (refusal cause) r (now (out .exit)) ⌝ }
-{
-    let first = text::put_bytes(out, 0, b"refused ");
-    let second = text::put_decimal(out, first, cause as u64);
-    text::put(out, second, b'\n')
-}
-
 fn report_into(book: &mut [u32], file: &[u8], out: &mut [u8]) -> usize
     ensures { λ r. ⌜ Wrote (now (out .entry)) 0 (reportInto (openDefaultWords (now (book .entry))) (now (file .entry))) r (now (out .exit)) ⌝ }
 {
     book::open_default(book);
     let found = dayfile::read_file(book, file);
     if found.answer != 0 {
-        return refused(found.answer, out);
+        return text::refused(found.answer, out);
     }
     put_table(book, file, out)
 }

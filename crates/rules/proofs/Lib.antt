@@ -10,6 +10,8 @@ pub mod ReadLaws
 pub mod EachLaws
 pub mod SumOrder
 pub mod SumPlaces
+pub mod MonthReportLaws
+pub mod MonthTotalsLaws
 pub mod CollateralOrder
 pub mod Limits
 pub mod AskedLaws
@@ -27,6 +29,7 @@ pub mod WordFigures
 pub mod BookFigures
 pub mod BalanceFigures
 pub mod MonthFigures
+pub mod MonthReportFigures
 pub mod CeilingFigures
 pub mod CollateralFigures
 pub mod ControlFigures

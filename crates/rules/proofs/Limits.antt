@@ -31,9 +31,9 @@ use Rattle.rules.proofs.SumOrder.{picked, forTests, toTests, CountsFor,
 use Rattle.rules.proofs.WordLaws.{within-true, volume-range}
 
 -- what a legal record holds is within the limit of its type
-pub fault-amount : (k : Key) (a : ℕ) → fault k a ≡ 0 → a ≤ amountLimit (k .type)
+fault-facts : (k : Key) (a : ℕ) → fault k a ≡ 0 → (isType (k .type) ≡ true) × (a ≤ amountLimit (k .type))
 unfolding fault
-fault-amount k a e =
+fault-facts k a e =
     let h =
     clear-all
     (unless (partyOk (k .party)) badParty
@@ -42,7 +42,10 @@ fault-amount k a e =
     ∷ unless (counterpartyOk k) badCounterparty
     ∷ unless (leb a (amountLimit (k .type))) badAmount
     ∷ []) e in
-    leb-true _ _ (unless-zero _ _ (h .1 .1 .1 .1 .0))
+    (unless-zero _ _ (h .1 .1 .0), leb-true _ _ (unless-zero _ _ (h .1 .1 .1 .1 .0)))
+
+pub fault-amount : (k : Key) (a : ℕ) → fault k a ≡ 0 → a ≤ amountLimit (k .type)
+fault-amount k a e = fault-facts k a e .1
 
 pub mark-facts : (r : Record) → markOk r ≡ true → (key r .type ≡ 21) × (r .amount ≡ 0)
 unfolding markOk
@@ -58,13 +61,17 @@ mark-facts r e =
     ∷ []) e in
     (eqb-true _ _ (h .0), eqb-true _ _ (h .1 .1 .1 .1 .0))
 
-pub legal-amount : (r : Record) → legal r ≡ true → r .amount ≤ amountLimit (key r .type)
+-- it is of a type, or a mark
+pub legal-cases : (r : Record) → legal r ≡ true → ((isType (key r .type) ≡ true) × (r .amount ≤ amountLimit (key r .type))) ⊎ ((key r .type ≡ 21) × (r .amount ≡ 0))
 unfolding legal
-legal-amount r e =
+legal-cases r e =
     elim (or-cases (eqb (fault (key r) (r .amount)) 0 && statusOk (r .label)) (markOk r) e) [
-      | inl h ↦ fault-amount (key r) (r .amount) (eqb-true _ _ (and-split (eqb (fault (key r) (r .amount)) 0) _ h .0))
-      | inr h ↦ rw (mark-facts r h .1) zero-le
+      | inl h ↦ inl (fault-facts (key r) (r .amount) (eqb-true _ _ (and-split (eqb (fault (key r) (r .amount)) 0) _ h .0)))
+      | inr h ↦ inr (mark-facts r h)
     ]
+
+pub legal-amount : (r : Record) → legal r ≡ true → r .amount ≤ amountLimit (key r .type)
+legal-amount r e = elim (legal-cases r e) [ inl h ↦ h .1 | inr h ↦ rw (h .1) zero-le ]
 
 pub money-limit : (t : ℕ) → amountLimit t ≤ mostMoney
 unfolding amountLimit

@@ -13,6 +13,7 @@ use Rattle.rules.specs.Words.{isBook, entries, countOf, coefficientOf, t
 use Rattle.rules.specs.Book.{entryAt, countCause, countAnswer, readCause, readAnswer}
 use Rattle.rules.specs.Balance.{Volume, partyDayCause, balanceAnswer, tallyAnswer}
 use Rattle.rules.specs.Collateral.{collateralCause, collateralAnswer}
+use Rattle.rules.specs.MonthReport.{monthReportCause, monthReport}
 use Rattle.rules.specs.declared.Case.{Case}
 use Rattle.rules.proofs.BookLaws.{entry-at}
 use Rattle.rules.proofs.LiftLaws.{SameView}
@@ -61,3 +62,7 @@ module _ {ws vs : List ℕ} (s : SameView ws vs) where
   pub same-collateral : (k : Case) → collateralAnswer ws k ≡ collateralAnswer vs k
   unfolding collateralAnswer collateralCause partyDayCause isBook
   same-collateral k = by-book (λ us. collateralAnswer us k) (λ us b. rw b) (λ b c. rw (b, c, s .holds c))
+
+  pub same-report : (m : ℕ) → monthReport ws m ≡ monthReport vs m
+  unfolding monthReport monthReportCause isBook
+  same-report m = by-book (λ us. monthReport us m) (λ us b. rw b) (λ b c. rw (b, c, s .holds c))

@@ -22,6 +22,8 @@ use Rattle.rules.specs.Collateral.{noMonth, plainCase, generationMargin,
 use Rattle.rules.specs.CaseFigures.{withParty, withDay, withLicence, withCapacity, withNonbusiness, withHoliday, withDefaults, withResponsible, withMonths, withUsed, withRk, withRt, withYt, withScore, withBest}
 use Rattle.rules.specs.Ceiling.{isRecordable, ceilingCause, ceilingAnswer}
 use Rattle.rules.specs.FirstDay.{firstDayCause, firstDayAnswer}
+use Rattle.rules.specs.MonthReport.{reported, daySum, monthTotal, dayLine, dayLines, totalLine, reportLines, monthReportCause, reportOf, refusedReport, monthReport}
+use Rattle.rules.specs.MonthTotals.{chosen, amounts, ofMonth, exportOf}
 use Rattle.rules.specs.Control.{detectedIn, isToCancel, cancelOf, isRepeatedBuyer, firstPass, afterFirst, secondPass, afterSecond, markOf, controlRefusal, controlledRecords, detectedParties, cancelledEntries}
 use Rattle.rules.specs.DayFile.{wordsOf, isShaped, isFile, Item, itemsFrom, items, itemCause, linesOf, fileRefusal, itemNames, fileNames}
 use Rattle.rules.specs.Machine.{leavesOf, figuresOf, after, answers}
@@ -208,5 +210,5 @@ oneDay = controlWords (book (chain 9000)) 9000
 
 -- what the lists compute with: to unfold `computed` is to unfold all of these
 unfoldable pub computed : Unit {0}
-unfolding statusWhere sum total count countBelow all any halfUp roundUp sumℤ dateOf monthOf monthFrom monthStart monthLength daysIn leapDays isLeap counterpartyOk amountLimit fault markOk statusOk legal encode decode entryOk entriesOk readEntries isBook entries encodeAll usedWords laid openCause openWords isClosed shutTo entryAt counted countedTo sumOf boughtBy tallyOf acquired programUsed saleSide coverSide balanceOf balance isDetected partyDayCause balanceAnswer tallyAnswer monthCause weightedPrices weights aosmf aedm monthFigures monthAnswer generationMargin margin tradingDays debtOf debts debt quarters trading highestPrice lowestVolume imbalanceOver imbalance risk yek totalOf monthOk figuresOk collateralCause collateralOf collateralAnswer isRecordable ceilingCause ceilingAnswer firstDayCause firstDayAnswer detectedIn isToCancel cancelOf isRepeatedBuyer firstPass afterFirst secondPass afterSecond markOf controlledRecords detectedParties cancelledEntries wordsOf isShaped isFile itemsFrom items itemCause linesOf itemNames fileNames after answers bookAfter bookAnswers postRefusal withdrawRefusal withdrawnAt controlRefusal fileRefusal leavesOf figuresOf refusal figuresOn changed causeOf figuresAt wordsAfter
+unfolding statusWhere sum total count countBelow all any halfUp roundUp sumℤ dateOf monthOf monthFrom monthStart monthLength daysIn leapDays isLeap counterpartyOk amountLimit fault markOk statusOk legal encode decode entryOk entriesOk readEntries isBook entries encodeAll usedWords laid openCause openWords isClosed shutTo entryAt counted countedTo sumOf boughtBy tallyOf acquired programUsed saleSide coverSide balanceOf balance isDetected partyDayCause balanceAnswer tallyAnswer monthCause weightedPrices weights aosmf aedm monthFigures monthAnswer generationMargin margin tradingDays debtOf debts debt quarters trading highestPrice lowestVolume imbalanceOver imbalance risk yek totalOf monthOk figuresOk collateralCause collateralOf collateralAnswer isRecordable ceilingCause ceilingAnswer firstDayCause firstDayAnswer reported daySum monthTotal dayLine dayLines totalLine reportLines monthReportCause reportOf refusedReport monthReport chosen amounts ofMonth exportOf detectedIn isToCancel cancelOf isRepeatedBuyer firstPass afterFirst secondPass afterSecond markOf controlledRecords detectedParties cancelledEntries wordsOf isShaped isFile itemsFrom items itemCause linesOf itemNames fileNames after answers bookAfter bookAnswers postRefusal withdrawRefusal withdrawnAt controlRefusal fileRefusal leavesOf figuresOf refusal figuresOn changed causeOf figuresAt wordsAfter
 computed = tt

@@ -11,6 +11,8 @@ pub mod Control
 pub mod DayFile
 pub mod Ceiling
 pub mod FirstDay
+pub mod MonthReport
+pub mod MonthTotals
 pub mod Machine
 pub mod Calls
 pub mod Ledger

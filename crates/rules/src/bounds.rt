@@ -10,6 +10,9 @@ pub const DAYS: usize = 36525;
 
 pub const NUMBERS: usize = 1000;
 
+// The months of these days: 2000 to 2099.
+pub const MONTHS: u32 = 1200;
+
 pub const MOST_VOLUME: u64 = 1000000000;
 
 // Money may be up to this (02, T-06).

@@ -63,5 +63,7 @@ pub const WITHDRAWN: u32 = 1;
 
 pub const CANCELLED: u32 = 2;
 
-// The kind 3 word of status 2 with type and counterparty 0.
+// The kind 3 words of status 1 and 2 with type and counterparty 0.
+pub const WITHDRAWN_WORD: u32 = FIGURES_WORD + WITHDRAWN * STATUS;
+
 pub const CANCELLED_WORD: u32 = FIGURES_WORD + CANCELLED * STATUS;

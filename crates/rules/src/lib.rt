@@ -101,6 +101,23 @@ pub struct FirstDayAnswer {
     pub day: u32,
 }
 
+// The sums of a line of a month report, one for each type: 1 to 20, and 22 last.
+pub const LINE_SUMS: usize = 21;
+
+// The figures of its lines: at most 31 days, and the totals.
+pub const REPORT_FIGURES: usize = 672;
+
+// A month report (02, T-01): the month, its first day, how many days it has, and the sums line by line. Line i, from
+// LINE_SUMS * i on, is that of day first_day + i; the line after the last day has the month's totals.
+#[repr(C)]
+pub struct MonthReport {
+    pub answer: u32,
+    pub month: u32,
+    pub first_day: u32,
+    pub days: u32,
+    pub lines: [u64; REPORT_FIGURES],
+}
+
 // The parties detected in each pass of a control, and the entries it cancelled.
 #[repr(C)]
 pub struct Controlled {

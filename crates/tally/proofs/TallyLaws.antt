@@ -7,23 +7,22 @@ use Prim.Native.Nat.{ℕ, _+_, _*_, _%_, _≤_, _<_, zero-le}
 use native.Mathlib.Nat.{add-zero}
 use native.Mathlib.Omega.{arith}
 use lib.Dec.{eqb, ltb}
-use lib.ListN.{length, getD, drop}
-use lib.Seq.{getD-drop, ext-getD}
+use lib.ListN.{length, getD}
+use lib.Seq.{ext-getD}
 use borrow.Author.Tests.{eqb-true, ltb-true, eqb-false, eq-eqb, ne-eqb, lt-ltb, not-true}
 use Rattle.numbers.specs.Sums.{total}
 use Rattle.numbers.specs.Tests.{every}
 use Rattle.numbers.proofs.TestLaws.{bool-cases, and-split, and-join, every-holds, holds-every}
 use Rattle.numbers.proofs.ListLaws.{getD-map}
 use Rattle.rules.specs.Entry.{Key, Label, Record, key, isVolume, isExport, standing, legal, mostVolume}
-use Rattle.rules.specs.Words.{valueAt, typeBits, decode, entryOk, readEntries, isBook, entries, countOf}
+use Rattle.rules.specs.Words.{readEntries, isBook, entries, countOf}
 use Rattle.rules.specs.Balance.{counted, countedTo, sumOf, boughtBy, tallyOf, volumeTypes, noTally, sumCount, sumPlace}
 use Rattle.rules.specs.declared.Tally.{Tally}
 use Rattle.rules.specs.declared.TallyAnswer.{TallyAnswer}
-use Rattle.rules.proofs.WordLaws.{legal-bounds, entry-facts, bits-back, word-of}
 use Rattle.rules.proofs.SumOrder.{forTests, toTests, counts-for, counts-to}
-use Rattle.rules.proofs.SumPlaces.{typeAt, type-at, place-of, one-type}
+use Rattle.rules.proofs.SumPlaces.{sum-places, typeAt, type-at, place-of, one-type}
 use Rattle.rules.proofs.Limits.{legal-amount, volume-limit, bought-sum}
-use Rattle.words.proofs.BookCode.{book-within, book-entry}
+use Rattle.words.proofs.BookCode.{IsRead, is-read, book-within, book-entry}
 use Rattle.cells.specs.Cells.{added, addTo, addToEach, over, blank, filled, Limited}
 use Rattle.cells.proofs.CellLaws.{same-test, goes-one, one-goes, one-apart, cell-tested, length-filled}
 use Rattle.cells.proofs.ScanLaws.{readTo, readAt, total-next, few-to, legal-to, legal-at, table-to, filled-next}
@@ -54,21 +53,21 @@ counted-amount d r l f = rw (volume-limit (key r .type) (f .volume)) at (legal-a
 module _ (p d i : ℕ) (h : i < sumCount) (l : Label) where
   pub sum-tests : Counts d l → l .key .party ≡ p → sumPlace (l .key .type) ≡ i → every (forTests p d (typeAt i) l) ≡ true
   sum-tests f ep ei =
-      let t : l .key .type ≡ typeAt i = one-type (place-of (l .key .type) (f .volume)) (rw ei (type-at i h)) in
+      let t : l .key .type ≡ typeAt i = one-type sum-places (place-of sum-places (l .key .type) (f .volume)) (rw ei (type-at sum-places i h)) in
       rw (eq-eqb (l .status) 0 (f .stands), eq-eqb (l .key .party) p ep, eq-eqb (l .key .day) d (f .day), eq-eqb (l .key .type) (typeAt i) t, f .no-export)
 
   pub tests-sum : every (forTests p d (typeAt i) l) ≡ true → Counts d l × (l .key .party ≡ p) × (sumPlace (l .key .type) ≡ i)
   tests-sum e =
       let c = counts-for p d (typeAt i) l e in
-      let s = type-at i h in (
+      let s = type-at sum-places i h in (
         record {
           stands = c .standing;
           day = c .day;
-          volume = rw (c .type) (s .volume);
+          volume = rw (c .type) (s .is-named);
           no-export = not-true _ (every-holds (forTests p d (typeAt i) l) e .1 .1 .1 .1 .0);
         },
         c .party,
-        ap sumPlace (c .type) ∙ s .place,
+        ap sumPlace (c .type) ∙ s .stands-at,
       )
 
 -- sums in the order of their places are a tally
@@ -108,30 +107,6 @@ module _ (p d : ℕ) where
 
   own-tally : (rs : List Record) → _≡_ {A = Tally} (record { party = p; sums = filled (ownCells p d) sumCount rs }) (tallyOf p d rs)
   own-tally rs = tally-of p d rs (filled (ownCells p d) sumCount rs) (length-filled (ownCells p d) sumCount rs) (own-cell rs)
-
--- the words of a legal entry, by its figures
-pub record IsRead (a b w : ℕ) (r : Record) : Type 0 where
-  pub party : a ≡ 268435456 + key r .party
-  pub day : b ≡ 536870912 + key r .day
-  pub figures : w ≡ 805306368 + typeBits (key r .type) (key r .counterparty) (r .label .status)
-  pub type : key r .type ≤ 22
-  pub counterparty : key r .counterparty ≤ 999
-
-pub is-read : (ws : List ℕ) (at : ℕ) → entryOk (drop at ws) ≡ true → IsRead (getD ws at 0) (getD ws (at + 1) 0) (getD ws (at + 2) 0) (decode (drop at ws))
-unfolding decode
-is-read ws at e =
-    let f = entry-facts (drop at ws) e in
-    let b = legal-bounds (decode (drop at ws)) (f .is-legal) in
-    let a0 : getD (drop at ws) 0 0 ≡ getD ws at 0 = getD-drop at ws 0 0 ∙ ap (λ n. getD ws n 0) (add-zero at) in
-    let a1 = getD-drop at ws 1 0 in
-    let a2 = getD-drop at ws 2 0 in
-    record {
-      party = sym a0 ∙ sym (word-of 1 _ (f .kind-0));
-      day = sym a1 ∙ sym (word-of 2 _ (f .kind-1));
-      figures = sym a2 ∙ sym (word-of 3 _ (f .kind-2)) ∙ ap (λ v. 805306368 + v) (sym (bits-back (valueAt (drop at ws) 2)));
-      type = b .type;
-      counterparty = b .counterparty;
-    }
 
 -- the code's tests of an own entry of the day, of one that counts, and of a sale to the party
 abbrev pub ownTests : ℕ → ℕ → ℕ → ℕ → List Bool
@@ -265,7 +240,7 @@ module _ (ws : List ℕ) (ok : isBook ws ≡ true) where
         let few = counted-amount d (readAt ws i) (legal-at ws ok i l) f in
         record {
           volume = v;
-          place = place-of type v .below;
+          place = place-of sum-places type v .below;
           fits = omega (arith, table-to ws ok (own-limited p d) sumCount i (omega arith) .at-most (sumPlace type), few);
           same = tally-next true own;
         }

@@ -15,18 +15,14 @@ use rules::layout::ENTRY_WORDS;
 use rules::layout::FIGURES_WORD;
 use rules::layout::HEAD_WORDS;
 use rules::layout::PARTY_WORD;
-use rules::layout::STATUS;
 use rules::layout::TYPES;
 use rules::layout::UPDATED_PROGRAM;
-use rules::layout::WITHDRAWN;
+use rules::layout::WITHDRAWN_WORD;
 
 pub mod balances;
 
 // The kind 3 word of a standing type 6 entry with counterparty 0: an export. Each counterparty adds TYPES.
 const EXPORT: u32 = FIGURES_WORD + BILATERAL;
-
-// The first kind 3 word of status 1.
-const WITHDRAWN_WORD: u32 = FIGURES_WORD + WITHDRAWN * STATUS;
 
 // Where the sum of a volume type stands in the tally: that of type 22 last.
 pub fn sum_place(entry_type: u32) -> usize

@@ -13,7 +13,7 @@ use lib.Seq.{set-out, drop-cons, take-at, drop-at, length-take-le}
 use borrow.Author.Tests.{ltb-true, lt-ltb, le-ltb}
 use Rattle.numbers.specs.Signed.{isNegative}
 use Rattle.numbers.proofs.TestLaws.{below-or-above}
-use Rattle.text.specs.Text.{digits, decimal, signed, eachFrom, over, Wrote, Whole}
+use Rattle.text.specs.Text.{digits, decimal, signed, refusal, eachFrom, over, Wrote, Whole}
 
 -- text after text
 pub over-append : (s t out : List ℕ) (at : ℕ) → over out at (s ++ t) ≡ over (over out at s) (at + length s) t
@@ -176,6 +176,10 @@ pub signed-most : (z : ℤ) → length (signed z) ≤ 21
 unfolding signed
 signed-most (pos n) = omega (arith, decimal-most n)
 signed-most (negsuc n) = omega (arith, decimal-most (suc n))
+
+pub refusal-most : (c : ℕ) → length (refusal c) ≤ 29
+unfolding refusal
+refusal-most c = simp length-append (omega (arith, decimal-most c))
 
 -- a text that a slice has room for stands in it whole
 over-later : (s out : List ℕ) (at b : ℕ) → over (b ∷ out) (suc at) s ≡ b ∷ over out at s

@@ -21,6 +21,10 @@ unfoldable pub signed : ℤ → List ℕ
 signed (pos n) = decimal n
 signed (negsuc n) = 45 ∷ decimal (suc n)
 
+-- refused, a space and the number
+unfoldable pub refusal : ℕ → List ℕ
+refusal cause = (114 ∷ 101 ∷ 102 ∷ 117 ∷ 115 ∷ 101 ∷ 100 ∷ 32 ∷ []) ++ decimal cause ++ (10 ∷ [])
+
 -- the texts of n numbers from k on
 unfoldable pub eachFrom : (ℕ → List ℕ) → ℕ → ℕ → List ℕ
 eachFrom text zero k = []

@@ -3,7 +3,7 @@ ghost use mathlib.Core.Path.{_≡_};
 ghost use mathlib.Core.List.{[], _∷_, _++_};
 ghost use Prim.Native.Nat.{_+_, _≤_, _<_};
 ghost use lib.ListN.{length};
-ghost use Rattle.text.specs.Text.{decimal, signed, Wrote};
+ghost use Rattle.text.specs.Text.{decimal, signed, refusal, Wrote};
 
 pub fn put(out: &mut [u8], at: usize, byte: u8) -> usize
     requires { ⌜ at ≤ length (now out) ⌝ }
@@ -74,4 +74,13 @@ pub fn put_balance(out: &mut [u8], at: usize, x: i64, end: u8) -> usize
 {
     let next = put_signed(out, at, x);
     put(out, next, end)
+}
+
+// One line for a refusal, as much of it as fits.
+pub fn refused(cause: u32, out: &mut [u8]) -> usize
+    ensures { λ r. ⌜ Wrote (now (out .entry)) 0 (refusal cause) r (now (out .exit)) ⌝ }
+{
+    let first = put_bytes(out, 0, b"refused ");
+    let second = put_decimal(out, first, cause as u64);
+    put(out, second, b'\n')
 }

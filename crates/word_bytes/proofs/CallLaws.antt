@@ -8,15 +8,11 @@ use Rattle.numbers.specs.Causes.{ifDone}
 use Rattle.rules.specs.Refusals.{notABook}
 use Rattle.rules.specs.Words.{isBook, usedWith}
 use Rattle.rules.specs.DayFile.{wordsOf}
-use Rattle.rules.specs.Balance.{partyDayCause}
-use Rattle.rules.specs.Collateral.{refusedCollateral, collateralCause, collateralAnswer}
 use Rattle.rules.specs.Machine.{leavesOf, figuresOf}
 use Rattle.rules.specs.Calls.{Change, Figures, noFigures, onRecords, causeOf, figuresAt, wordsAfter}
-use Rattle.rules.specs.declared.Case.{Case}
 use Rattle.rules.proofs.LiftLaws.{SameView, SameFor}
 use Rattle.rules.proofs.ChangeLaws.{adds}
 use Rattle.rules.proofs.CallLaws.{refused-words, view-cause, view-figures, used-view, used-same, cut-words}
-use Rattle.rules.proofs.ReadLaws.{same-collateral}
 use Rattle.word_bytes.proofs.BytesLaws.{Bytes}
 use Rattle.word_bytes.specs.Bytes.{onWords, withWords}
 use Rattle.word_bytes.specs.Coding.{Decoded, overBytes}
@@ -44,9 +40,9 @@ module _ (k : ℕ) {bs ws : List ℕ} {n : ℕ} (r : Decoded (usedWith k (wordsO
   cut : SameView (take (usedWith k (wordsOf bs)) (wordsOf bs)) (wordsOf bs)
   cut = used-view k (usedWith k (wordsOf bs)) (wordsOf bs) (omega arith)
 
-  pub on-collateral : (c : Case) → collateralAnswer (take n ws) c ≡ onWords bs (λ us. collateralAnswer us c) (refusedCollateral notABook)
-  unfolding isBook partyDayCause collateralCause collateralAnswer
-  on-collateral c = on-words r (λ us. collateralAnswer us c) _ refl (same-collateral cut c)
+  -- any answer that looks at a book's view alone
+  pub on-view : {A : Type 0} {refused : A} (f : List ℕ → A) → ((us vs : List ℕ) → SameView us vs → f us ≡ f vs) → f [] ≡ refused → f (take n ws) ≡ onWords bs f refused
+  on-view f same none = on-words r f _ none (same _ _ cut)
 
   -- any call that changes a book and adds k entries at most, with what it answers of its cause and figures
   module _ (c : Change) (l : adds c ≤ k) where

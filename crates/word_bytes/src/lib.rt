@@ -14,6 +14,8 @@ use rules::layout::ENTRY_WORDS;
 use rules::layout::HEAD_WORDS;
 use rules::layout::KIND;
 
+pub mod sizes;
+
 fn word_of(a: u8, b: u8, c: u8, d: u8) -> u32
     ensures { λ r. ⌜ r ≡ a + b * 256 + c * 65536 + d * 16777216 ⌝ }
 {

@@ -1,5 +1,5 @@
 -- The definitions of a book at a place of its words, as code reads them. Assumes nothing.
-use mathlib.Core.Path.{_≡_, sym, _∙_}
+use mathlib.Core.Path.{_≡_, sym, ap, _∙_}
 use mathlib.Core.Bool.{Bool, true, false, not, _&&_, _||_}
 use mathlib.Core.List.{List, [], _∷_}
 use Prim.Native.Nat.{ℕ, zero, suc, _+_, _-_, _*_, _<_, _≤_}
@@ -11,9 +11,10 @@ use lib.Seq.{getD-drop, drop-drop}
 use borrow.Author.Tests.{le-leb, lt-leb, leb-true, not-true, not-false}
 use Rattle.numbers.specs.Tests.{any}
 use Rattle.numbers.proofs.TestLaws.{and-split}
-use Rattle.rules.specs.Words.{entryOk, entriesOk, decode, readEntries, isBook, kindOf, kindAt, countOf, coefficientOf, toleranceOf, roomIn}
+use Rattle.rules.specs.Entry.{Record, key}
+use Rattle.rules.specs.Words.{entryOk, entriesOk, decode, readEntries, isBook, kindOf, kindAt, valueAt, typeBits, countOf, coefficientOf, toleranceOf, roomIn}
 use Rattle.rules.specs.Book.{isClosed, isMarkOf}
-use Rattle.rules.proofs.WordLaws.{entries-ok-step, read-step, room-words, book-facts, entry-facts}
+use Rattle.rules.proofs.WordLaws.{entries-ok-step, read-step, room-words, book-facts, entry-facts, legal-bounds, bits-back, word-of}
 
 -- the five words at a place
 abbrev pub fiveAt : List ℕ → ℕ → List ℕ
@@ -73,6 +74,30 @@ book-entry ws e n h =
 
 pub kind-three : (ws : List ℕ) (at : ℕ) → entryOk (drop at ws) ≡ true → kindOf (getD ws (at + 2) 0) ≡ 3
 kind-three ws at e = rw (← getD-drop at ws 2 0) (entry-facts (drop at ws) e .kind-2)
+
+-- the words of a legal entry, by its figures
+pub record IsRead (a b w : ℕ) (r : Record) : Type 0 where
+  pub party : a ≡ 268435456 + key r .party
+  pub day : b ≡ 536870912 + key r .day
+  pub figures : w ≡ 805306368 + typeBits (key r .type) (key r .counterparty) (r .label .status)
+  pub type : key r .type ≤ 22
+  pub counterparty : key r .counterparty ≤ 999
+
+pub is-read : (ws : List ℕ) (at : ℕ) → entryOk (drop at ws) ≡ true → IsRead (getD ws at 0) (getD ws (at + 1) 0) (getD ws (at + 2) 0) (decode (drop at ws))
+unfolding decode
+is-read ws at e =
+    let f = entry-facts (drop at ws) e in
+    let b = legal-bounds (decode (drop at ws)) (f .is-legal) in
+    let a0 : getD (drop at ws) 0 0 ≡ getD ws at 0 = getD-drop at ws 0 0 ∙ ap (λ n. getD ws n 0) (add-zero at) in
+    let a1 = getD-drop at ws 1 0 in
+    let a2 = getD-drop at ws 2 0 in
+    record {
+      party = sym a0 ∙ sym (word-of 1 _ (f .kind-0));
+      day = sym a1 ∙ sym (word-of 2 _ (f .kind-1));
+      figures = sym a2 ∙ sym (word-of 3 _ (f .kind-2)) ∙ ap (λ v. 805306368 + v) (sym (bits-back (valueAt (drop at ws) 2)));
+      type = b .type;
+      counterparty = b .counterparty;
+    }
 
 -- what the first three words must be for a slice with this room
 abbrev pub headOk : List ℕ → ℕ → Bool

@@ -2,6 +2,10 @@
 
 pub const FULL: usize = 15363;
 pub const DAY: u32 = 9000;
+// the day's month, August 2024: its number, its first day and its days
+pub const MONTH: u32 = 295;
+const FIRST_DAY: u32 = 8979;
+const DAYS: u32 = 31;
 
 pub struct Draw(u64);
 
@@ -55,7 +59,40 @@ fn entry(d: &mut Draw) -> [u32; 5] {
     ]
 }
 
-fn book(d: &mut Draw, entries: usize) -> Vec<u32> {
+// An entry of a book that a month report is made of. One in sixteen is of the day before the month or after it. A quarter
+// are bilateral sales, of them one in eight an export and one in eight cancelled; the others are of every type. One in
+// eight was withdrawn, one in 64 is a mark.
+fn month_entry(d: &mut Draw) -> [u32; 5] {
+    const OTHERS: [u32; 20] =
+        [1, 2, 3, 4, 5, 7, 8, 9, 10, 11, 12, 13, 14, 15, 16, 17, 18, 19, 20, 22];
+    let day = match d.next(32) {
+        0 => FIRST_DAY - 1,
+        1 => FIRST_DAY + DAYS,
+        _ => FIRST_DAY + d.next(DAYS),
+    };
+    if d.next(64) == 0 {
+        return [0x10000000, 0x20000000 + day, 0x30000015, 0x40000000, 0x50000000];
+    }
+    let (party, withdrawn) = (1 + d.next(999), u32::from(d.next(8) == 0));
+    let (kind, other, status) = match d.next(4) {
+        0 if d.next(8) == 0 => (6, 0, withdrawn),
+        0 => {
+            let cancelled = d.next(8) == 0;
+            (6, 1 + (party + d.next(4)) % 999, if cancelled { 2 } else { withdrawn })
+        }
+        _ => (OTHERS[d.next(20) as usize], 0, withdrawn),
+    };
+    let figures = kind + other * 256 + (status << 24);
+    [
+        0x10000000 + party,
+        0x20000000 + day,
+        0x30000000 + figures,
+        0x40000000 + d.next(900_000),
+        0x50000000,
+    ]
+}
+
+fn book(d: &mut Draw, entries: usize, entry: fn(&mut Draw) -> [u32; 5]) -> Vec<u32> {
     let mut words = vec![0x60000000 + entries as u32, 0x70000000 + 110, 0x80000000 + 600_000];
     words.extend((0..entries).flat_map(|_| entry(d)));
     words
@@ -82,11 +119,11 @@ fn books_of(size: usize) -> usize {
     (12_800 / size.max(1)).clamp(32, 256)
 }
 
-pub fn books(entries: usize) -> Vec<Drawn> {
+fn books_with(entries: usize, entry: fn(&mut Draw) -> [u32; 5]) -> Vec<Drawn> {
     let drawn = |seed| {
         let d = &mut Draw::new(seed);
         Drawn {
-            words: book(d, entries),
+            words: book(d, entries, entry),
             party: 1 + d.next(999),
             number: d.next(entries.max(1) as u32),
             file: Vec::new(),
@@ -95,11 +132,19 @@ pub fn books(entries: usize) -> Vec<Drawn> {
     (0..books_of(entries)).map(drawn).collect()
 }
 
+pub fn books(entries: usize) -> Vec<Drawn> {
+    books_with(entries, entry)
+}
+
+pub fn months(entries: usize) -> Vec<Drawn> {
+    books_with(entries, month_entry)
+}
+
 // Books without entries, and a day file of as many lines for each.
 pub fn files(lines: usize) -> Vec<Drawn> {
     let drawn = |seed| {
         let d = &mut Draw::new(seed);
-        Drawn { words: book(d, 0), party: 0, number: 0, file: file(d, lines) }
+        Drawn { words: book(d, 0, entry), party: 0, number: 0, file: file(d, lines) }
     };
     (0..books_of(lines)).map(drawn).collect()
 }

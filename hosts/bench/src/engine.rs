@@ -30,6 +30,7 @@ on_books! {
     tally(party: u32, day: u32) -> TallyAnswer;
     day_ahead(party: u32, day: u32) -> Balance;
     delivery(party: u32, day: u32) -> Balance;
+    month_report(month: u32) -> MonthReport;
     control(day: u32) -> Controlled;
     read_file(file: *const u8, file_length: usize) -> FileRead;
     collateral(

@@ -4,7 +4,7 @@ mod books;
 mod engine;
 mod measure;
 
-use books::{Drawn, Tables, DAY, FULL};
+use books::{Drawn, Tables, DAY, FULL, MONTH};
 use engine::{fanzsoreb_ceiling, fanzsoreb_first_day, fanzsoreb_month, fanzsoreb_month_words};
 use measure::{round, shortest, Side};
 use peers::{copying, in_place};
@@ -39,8 +39,8 @@ impl Books {
     }
 
     // A call that changes nothing can be made again.
-    fn read(size: usize) -> Books {
-        Books { turns: if size == 0 { 8 } else { 1 }, ..Books::written(size, books::books(size)) }
+    fn read(size: usize, drawn: Vec<Drawn>) -> Books {
+        Books { turns: if size == 0 { 8 } else { 1 }, ..Books::written(size, drawn) }
     }
 
     // An opening leaves the same book each time: of 2 ns each, so many are made that the timer's grain is no part of it.
@@ -108,7 +108,8 @@ macro_rules! row {
 }
 
 fn reading(size: usize) -> Vec<Row> {
-    let books = Books::read(size);
+    let books = Books::read(size, books::books(size));
+    let months = Books::read(size, books::months(size));
     vec![
         row!(books, "is it a book", is_book; _ =>),
         row!(books, "number of entries", count; _ =>),
@@ -119,6 +120,7 @@ fn reading(size: usize) -> Vec<Row> {
         // a plain supplier's
         row!(books, "collateral", collateral;
             d => d.party, DAY, 0, 0, 0, 0, 0, 1, 0, 0, 0, 0, 0, 0, 0, 0, 0, 0, 0, 1; d.party, DAY),
+        row!(months, "month report", month_report; _ => MONTH),
     ]
 }
 

@@ -3,12 +3,12 @@
 use crate::engine::{words, Post};
 use second::{
     BalanceAnswer, Case, CeilingAnswer, Collateral, Controlled, Counted, EntryRead, FileRead,
-    FirstDayAnswer, MonthAnswer, Posted, TallyAnswer,
+    FirstDayAnswer, MonthAnswer, MonthReport, Posted, TallyAnswer, LINE_SUMS,
 };
 use std::fmt::Write;
 
 /// Every call that is compared by itself.
-pub const NAMES: [&str; 17] = [
+pub const NAMES: [&str; 18] = [
     "is_book",
     "open",
     "open_default",
@@ -23,6 +23,7 @@ pub const NAMES: [&str; 17] = [
     "ceiling",
     "first_day",
     "month",
+    "month_report",
     "collateral",
     "control",
     "read_file",
@@ -44,12 +45,13 @@ pub enum Call {
     Ceiling { offer: u32, bilateral: u32, futures: u32, capacity: u32 },
     FirstDay { month: u32 },
     Month { prices: Vec<u8>, imbalance: Vec<u8>, rows: u32, dm: Vec<u8>, group: u32 },
+    MonthReport { month: u32 },
     Collateral(Case),
     Control { day: u32 },
     ReadFile { file: Vec<u8> },
 }
 
-#[derive(Clone, Copy, Debug, PartialEq, Eq)]
+#[derive(Clone, Debug, PartialEq, Eq)]
 pub enum Answer {
     /// 1 or 0: is it a book, is it detected.
     Flag(u32),
@@ -63,6 +65,7 @@ pub enum Answer {
     Ceiling(CeilingAnswer),
     FirstDay(FirstDayAnswer),
     Month(MonthAnswer),
+    MonthReport(Box<MonthReport>),
     Collateral(Collateral),
     Controlled(Controlled),
     FileRead(FileRead),
@@ -82,10 +85,24 @@ impl Answer {
             Answer::Ceiling(a) => a.answer,
             Answer::FirstDay(a) => a.answer,
             Answer::Month(a) => a.answer,
+            Answer::MonthReport(a) => a.answer,
             Answer::Collateral(a) => a.answer,
             Answer::Controlled(a) => a.answer,
             Answer::FileRead(a) => a.answer,
         }
+    }
+
+    /// The answer with its figures, of a report's lines those that are not all 0.
+    pub fn shown(&self) -> String {
+        let Answer::MonthReport(report) = self else {
+            return format!("{self:?}");
+        };
+        let MonthReport { answer, month, first_day, days, lines } = **report;
+        let mut text = format!("answer {answer}, month {month} from {first_day}, {days} days");
+        for (i, line) in lines.iter().enumerate().filter(|(_, line)| **line != [0; LINE_SUMS]) {
+            let _ = write!(text, ", line {i} {line:?}");
+        }
+        text
     }
 }
 
@@ -130,6 +147,7 @@ impl Call {
             Call::Ceiling { .. } => "ceiling",
             Call::FirstDay { .. } => "first_day",
             Call::Month { .. } => "month",
+            Call::MonthReport { .. } => "month_report",
             Call::Collateral(_) => "collateral",
             Call::Control { .. } => "control",
             Call::ReadFile { .. } => "read_file",

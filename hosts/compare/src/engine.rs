@@ -8,7 +8,7 @@
 
 use second::{
     BalanceAnswer, Case, CeilingAnswer, Collateral, Controlled, Counted, EntryRead, FileRead,
-    FirstDayAnswer, MonthAnswer, Posted, TallyAnswer,
+    FirstDayAnswer, MonthAnswer, MonthReport, Posted, TallyAnswer,
 };
 
 /// The tables of a month step, as bytes.
@@ -50,6 +50,7 @@ pub trait Engine: Sized {
     fn ceiling(&self, offer: u32, bilateral: u32, futures: u32, capacity: u32) -> CeilingAnswer;
     fn first_day(&self, month: u32) -> FirstDayAnswer;
     fn month(&self, tables: Tables) -> MonthAnswer;
+    fn month_report(&self, book: &[u8], month: u32) -> MonthReport;
     fn collateral(&self, book: &[u8], case: &Case) -> Collateral;
     fn control(&self, book: &mut [u8], day: u32) -> Controlled;
     fn read_file(&self, book: &mut [u8], file: &[u8]) -> FileRead;
@@ -178,6 +179,11 @@ impl Engine for Second {
         }
     }
 
+    fn month_report(&self, book: &[u8], month: u32) -> MonthReport {
+        let refused = MonthReport { answer: 1, ..MonthReport::default() };
+        reading(book, refused, |words| second::month_report(words, month))
+    }
+
     fn collateral(&self, book: &[u8], case: &Case) -> Collateral {
         let refused = Collateral { answer: 1, ..Collateral::default() };
         reading(book, refused, |words| second::collateral(words, case))
@@ -273,6 +279,15 @@ pub mod linked {
     }
 
     #[repr(C)]
+    struct CReport {
+        answer: u32,
+        month: u32,
+        first_day: u32,
+        days: u32,
+        lines: [[u64; 21]; 32],
+    }
+
+    #[repr(C)]
     struct CCollateral {
         answer: u32,
         margin: u64,
@@ -346,6 +361,7 @@ pub mod linked {
             imbalance: *const c_void, imbalance_length: usize, rows: u32, dm: *const c_void,
             dm_length: usize, group: u32
         ) -> CMonthAnswer;
+        month_report: fanzsoreb_month_report, fanzsoreb_month_report_words(month: u32) -> CReport;
         collateral: fanzsoreb_collateral, fanzsoreb_collateral_words(
             party: u32, day: u32, licence: u32, capacity: u64, nonbusiness: u32, holiday: u32,
             defaults: u32, responsible: u32, aosmf1: u64, aedm1: i64, aosmf2: u64, aedm2: i64,
@@ -505,6 +521,17 @@ pub mod linked {
                 t.group,
             );
             MonthAnswer { answer: c.answer, aosmf: c.month.aosmf, aedm: c.month.aedm }
+        }
+
+        fn month_report(&self, book: &[u8], month: u32) -> MonthReport {
+            let c = month_report(self.lent(book), month);
+            MonthReport {
+                answer: c.answer,
+                month: c.month,
+                first_day: c.first_day,
+                days: c.days,
+                lines: c.lines,
+            }
         }
 
         fn collateral(&self, book: &[u8], case: &Case) -> Collateral {

@@ -35,6 +35,9 @@ fn made(engine: &impl Engine, call: &Call, book: &mut [u8], beside: &[&[u8]]) ->
             dm: beside[2],
             group: *group,
         })),
+        Call::MonthReport { month } => {
+            Answer::MonthReport(Box::new(engine.month_report(book, *month)))
+        }
         Call::Collateral(case) => Answer::Collateral(engine.collateral(book, case)),
         Call::Control { day } => Answer::Controlled(engine.control(book, *day)),
         Call::ReadFile { .. } => Answer::FileRead(engine.read_file(book, beside[0])),
@@ -87,7 +90,8 @@ impl Memory {
 
         let mut wrong = Vec::new();
         if got != wanted.answer {
-            wrong.push(format!("answer {got:?}, second calculation {:?}", wanted.answer));
+            let (got, wanted) = (got.shown(), wanted.answer.shown());
+            wrong.push(format!("answer {got}, second calculation {wanted}"));
         }
         if got.cause() != 0 && self.book.bytes() != wanted.before {
             wrong.push("the engine wrote on a refusal".to_string());
@@ -158,7 +162,8 @@ impl Lent {
         if call.has_words(&before) {
             wrong.extend(self.words.differences(&engine.on_words(), rng, &wanted));
         }
-        if answer.cause() != 0 && *model != before[..] {
+        let Wanted { answer, after, .. } = wanted;
+        if answer.cause() != 0 && *after != before[..] {
             wrong.push("the second calculation wrote on a refusal".to_string());
         }
         if wrong.is_empty() {

@@ -18,12 +18,15 @@ mod worked;
 use rounds::Plan;
 use std::process::ExitCode;
 
-const USAGE: &str = "compare [--seed N] [--rounds N] [--call NAME] [--only ROUND] [--program PATH]
+const USAGE: &str =
+    "compare [--seed N] [--rounds N] [--call NAME] [--only ROUND] [--program PATH] [--month PATH]
   --seed N       the draws' seed (default 1)
-  --rounds N     comparisons a call (default 200000; 2000 for the program)
-  --call NAME    one call only; list is lists of calls, worked the worked figures, balance the program
+  --rounds N     comparisons a call (default 200000; 2000 for a program)
+  --call NAME    one call only; list is lists of calls, worked the worked figures, balance and
+                 month_program the programs
   --only ROUND   one round of that call, with its inputs and answers
-  --program PATH also compare what the program balance prints";
+  --program PATH also compare what the program balance prints
+  --month PATH   also compare what the program month prints";
 
 const ROUNDS: u64 = 200_000;
 const PROGRAM_ROUNDS: u64 = 2_000;
@@ -51,11 +54,13 @@ struct Arguments {
     rounds: Option<u64>,
     call: Option<String>,
     only: Option<u64>,
-    program: Option<String>,
+    /// The programs by the names of their rounds, and their paths.
+    programs: Vec<(&'static str, String)>,
 }
 
 fn arguments() -> Option<Arguments> {
-    let mut arguments = Arguments { seed: 1, rounds: None, call: None, only: None, program: None };
+    let programs = Vec::new();
+    let mut arguments = Arguments { seed: 1, rounds: None, call: None, only: None, programs };
     let mut given = std::env::args().skip(1);
     while let Some(option) = given.next() {
         let value = given.next()?;
@@ -64,12 +69,13 @@ fn arguments() -> Option<Arguments> {
             "--rounds" => arguments.rounds = Some(value.parse().ok()?),
             "--call" => arguments.call = Some(value),
             "--only" => arguments.only = Some(value.parse().ok()?),
-            "--program" => arguments.program = Some(value),
+            "--program" => arguments.programs.push(("balance", value)),
+            "--month" => arguments.programs.push(("month_program", value)),
             _ => return None,
         }
     }
     if let Some(name) = &arguments.call {
-        let program = name == "balance" && arguments.program.is_some();
+        let program = arguments.programs.iter().any(|(program, _)| program == name);
         if !call::NAMES.contains(&name.as_str())
             && !["list", "worked"].contains(&name.as_str())
             && !program
@@ -125,10 +131,10 @@ fn main() -> ExitCode {
             failed += counts.failed;
         }
     }
-    if let Some(path) = &arguments.program {
-        if asked("balance") {
-            let counts = rounds::program(path, &plan(PROGRAM_ROUNDS));
-            println!("balance: {counts}");
+    for (name, path) in &arguments.programs {
+        if asked(name) {
+            let counts = rounds::program(name, path, &plan(PROGRAM_ROUNDS));
+            println!("{name}: {counts}");
             passed += counts.passed();
             failed += counts.failed;
         }

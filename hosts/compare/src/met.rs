@@ -3,7 +3,7 @@
 use crate::call::{Answer, Call};
 use crate::engine::words;
 use crate::sizes::ARRAYS;
-use second::room;
+use second::{room, Entry};
 
 /// What a call on this book met, so that the report shows what the draws reach.
 pub fn met(call: &Call, book: &[u8], answer: &Answer) -> Vec<&'static str> {
@@ -12,6 +12,7 @@ pub fn met(call: &Call, book: &[u8], answer: &Answer) -> Vec<&'static str> {
         met.extend(of_book(book));
     }
     met.extend(of_lines(call, book, answer));
+    met.extend(of_report(book, answer));
     if call.has_words(book) {
         met.push("on words");
     }
@@ -96,6 +97,48 @@ fn of_lines(call: &Call, book: &[u8], answer: &Answer) -> Option<&'static str> {
     let lines = words(file)?.iter().filter(|word| **word >> 28 == 3).count();
     let labels = about(stated(book)? + lines).filter(|_| lines > 0)?;
     Some(if answer.cause() == 0 { labels[3] } else { labels[4] })
+}
+
+/// What a report has in its lines, and what of the book it leaves out.
+fn of_report(book: &[u8], answer: &Answer) -> Vec<&'static str> {
+    let Answer::MonthReport(report) = answer else {
+        return Vec::new();
+    };
+    let Some(entries) = words(book).and_then(|w| second::decode(&w)).map(|book| book.entries)
+    else {
+        return Vec::new();
+    };
+    if report.answer != 0 {
+        return Vec::new();
+    }
+    let mut met = vec![match report.days {
+        28 => "28 days",
+        29 => "29 days",
+        30 => "30 days",
+        _ => "31 days",
+    }];
+    let (first, after) = (report.first_day, report.first_day + report.days);
+    let some = |line: u32| report.lines[line as usize].iter().any(|sum| *sum > 0);
+    let has = |test: &dyn Fn(&Entry) -> bool| entries.iter().any(test);
+    let of_month = |e: &Entry| e.day >= first && e.day < after;
+    for (holds, label) in [
+        (!some(report.days), "no figures"),
+        (some(0), "figures of the first day"),
+        (some(report.days - 1), "figures of the last day"),
+        ((0..report.days).filter(|day| some(*day)).count() > 9, "figures of ten days or more"),
+        (has(&|e| e.day + 1 == first && e.stands() && e.amount > 0), "the day before"),
+        (has(&|e| e.day == after && e.stands() && e.amount > 0), "the day after"),
+        (report.lines[report.days as usize][20] > 0, "updated program"),
+        (has(&|e| of_month(e) && e.stands() && e.is_export() && e.amount > 0), "export"),
+        (has(&|e| of_month(e) && e.status == second::WITHDRAWN && e.amount > 0), "withdrawn"),
+        (has(&|e| of_month(e) && e.status == second::CANCELLED && e.amount > 0), "cancelled"),
+        (has(&|e| of_month(e) && e.is_mark()), "mark"),
+    ] {
+        if holds {
+            met.push(label);
+        }
+    }
+    met
 }
 
 /// What an answer says.

@@ -69,7 +69,7 @@ pub fn single(engine: &impl Engine, plan: &Plan, name: &'static str) -> Counts {
                 counts.alike(&call, &book, &answer);
                 fault::counted(false);
                 if plan.only.is_some() {
-                    println!("  both answer {answer:?}");
+                    println!("  both answer {}", answer.shown());
                 }
             }
             Err(mut wrong) => {
@@ -124,7 +124,7 @@ pub fn lists(engine: &impl Engine, plan: &Plan) -> BTreeMap<&'static str, Counts
                     counts.alike(&call, &before, &answer);
                     fault::counted(false);
                     if plan.only.is_some() {
-                        println!("    both answer {answer:?}");
+                        println!("    both answer {}", answer.shown());
                     }
                 }
                 Err(mut wrong) => {
@@ -147,20 +147,27 @@ pub fn lists(engine: &impl Engine, plan: &Plan) -> BTreeMap<&'static str, Counts
     counts
 }
 
-/// Files for the program "balance": what it prints against what it should.
-pub fn program(path: &str, plan: &Plan) -> Counts {
+/// Files for a program, and arguments where it is "month": what it prints against what it should.
+pub fn program(name: &'static str, path: &str, plan: &Plan) -> Counts {
     let mut counts = Counts::default();
     for round in plan.numbers() {
         if counts.compared >= plan.rounds {
             break;
         }
-        let mut rng = Rng::of_round(plan.seed, "balance", round);
+        let mut rng = Rng::of_round(plan.seed, name, round);
         let file = draw::lone_file(&mut rng);
+        let (arguments, wanted) = if name == "balance" {
+            (Vec::new(), second::balance_output(&file))
+        } else {
+            let arguments = draw::month_arguments(&mut rng, &file);
+            let given: Vec<&str> = arguments.iter().map(String::as_str).collect();
+            let wanted = second::month_output(&file, &given);
+            (arguments, wanted)
+        };
         if plan.only.is_some() {
-            println!("round {round}: file {}", shown(&file));
+            println!("round {round}: arguments {arguments:?}, file {}", shown(&file));
         }
-        let wanted = second::balance_output(&file);
-        let got = output_of(path, &file);
+        let got = output_of(path, &arguments, &file);
         if got.as_ref() == Ok(&wanted) {
             let text = String::from_utf8_lossy(&wanted);
             let cause = text.strip_prefix("refused ").and_then(|c| c.trim().parse().ok());
@@ -171,9 +178,9 @@ pub fn program(path: &str, plan: &Plan) -> Counts {
             let wrong = [
                 format!("printed {got:?}"),
                 format!("second calculation {:?}", String::from_utf8_lossy(&wanted)),
-                format!("file {}", shown(&file)),
+                format!("arguments {arguments:?}, file {}", shown(&file)),
             ];
-            tell(plan, counts.failed, "balance", round, &wrong);
+            tell(plan, counts.failed, name, round, &wrong);
             counts.different();
             fault::counted(true);
         }
@@ -182,8 +189,9 @@ pub fn program(path: &str, plan: &Plan) -> Counts {
 }
 
 /// Runs the program with the file as its standard input.
-fn output_of(path: &str, file: &[u8]) -> Result<Vec<u8>, String> {
+fn output_of(path: &str, arguments: &[String], file: &[u8]) -> Result<Vec<u8>, String> {
     let mut child = Command::new(path)
+        .args(arguments)
         .stdin(Stdio::piped())
         .stdout(Stdio::piped())
         .spawn()

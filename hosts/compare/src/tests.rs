@@ -11,7 +11,7 @@ use crate::worked::figures;
 use second::calendar::period_of;
 use second::{
     BalanceAnswer, Book, Case, CeilingAnswer, Collateral, Controlled, Counted, Entry, EntryRead,
-    FileRead, FirstDayAnswer, MonthAnswer, Posted, TallyAnswer,
+    FileRead, FirstDayAnswer, MonthAnswer, MonthReport, Posted, TallyAnswer,
 };
 use std::collections::{BTreeMap, BTreeSet};
 
@@ -25,6 +25,7 @@ macro_rules! as_second {
 }
 
 mod lending;
+mod reports;
 
 fn quiet(rounds: u64) -> Plan {
     Plan { seed: 7, rounds, only: None, loud: false, first_only: false }
@@ -51,7 +52,7 @@ fn no_difference_where_there_is_none() {
 #[test]
 fn worked_figures() {
     let worked = figures(&Second);
-    assert_eq!((worked.compared, worked.failed), (295, 0));
+    assert_eq!((worked.compared, worked.failed), (460, 0));
     for slip in [
         "open_default: the old coefficient",
         "open_default: the old tolerance",
@@ -101,6 +102,35 @@ fn worked_figures() {
         "first_day: 2100 is a leap year",
         "first_day: 2000 is no leap year",
         "first_day: a year begins in December",
+        "month_report: 12 before 1",
+        "month_report: refused as a day",
+        "month_report: the month on a refusal",
+        "month_report: month 1,200 is given",
+        "month_report: a month is cut to sixteen bits",
+        "month_report: exports are left out",
+        "month_report: exports are left out of the totals",
+        "month_report: a sale counts for its buyer too",
+        "month_report: withdrawn entries count",
+        "month_report: cancelled entries count",
+        "month_report: cancelled entries are in the totals",
+        "month_report: the first party alone",
+        "month_report: the latest entry alone",
+        "month_report: the day before counts",
+        "month_report: the day after counts",
+        "month_report: months of thirty days",
+        "month_report: Februaries of 28 days",
+        "month_report: days from 1 on",
+        "month_report: the totals miss the first day",
+        "month_report: the totals miss the last day",
+        "month_report: the totals are in the last line",
+        "month_report: no totals",
+        "month_report: totals of the whole book",
+        "month_report: updates are left out",
+        "month_report: updates are in sum 12",
+        "month_report: updates come before money",
+        "month_report: money is left out",
+        "month_report: sums of 32 bits",
+        "month_report: the high word of an amount is lost",
         "collateral: a day's debt may be negative",
         "control: a lost purchase inside the first pass",
     ] {
@@ -137,6 +167,7 @@ fn every_cause_is_reached() {
         ("ceiling", &[12]),
         ("first_day", &[12]),
         ("month", &[11, 12]),
+        ("month_report", &[1, 12]),
         ("collateral", &[1, 3, 4, 12]),
         ("control", &[1, 4, 8, 9]),
         ("read_file", &[1, 2, 3, 4, 5, 6, 7, 8, 9]),
@@ -172,6 +203,37 @@ fn updated_programs_are_met() {
     }
 }
 
+/// Reports have figures more often than not, of months of each length, and their books entries that do
+/// not count (02, T-01).
+#[test]
+fn months_are_met() {
+    let counts = single(&Second, &quiet(20_000), "month_report");
+    let without = counts.met("no figures");
+    assert!(without > 500 && without < 8_000, "no figures {without}");
+    for label in [
+        "28 days",
+        "29 days",
+        "30 days",
+        "31 days",
+        "figures of the first day",
+        "figures of the last day",
+        "figures of ten days or more",
+        "the day before",
+        "the day after",
+        "updated program",
+        "export",
+        "withdrawn",
+        "cancelled",
+        "mark",
+    ] {
+        let met = counts.met(label);
+        assert!(met > 200, "{label} {met}");
+    }
+    let lists = lists(&Second, &quiet(20_000));
+    let met = lists["month_report"].met("figures of the first day");
+    assert!(met > 10, "list: figures of the first day {met}");
+}
+
 /// The second calculation with one slip.
 struct Wrong(&'static str);
 
@@ -189,6 +251,18 @@ fn stored(book: &Book, lent: &mut [u8]) {
     let mut w = words(lent).expect("words");
     second::encode(book, &mut w);
     lent.copy_from_slice(&bytes(&w));
+}
+
+/// A book with as many entries more as the words behind the last one are.
+fn with_words_behind(book: &[u8]) -> Vec<u8> {
+    let mut w = words(book).expect("words");
+    while Second.is_book(&bytes(&w)) == 1 && (w[0] & 0xFFFF) < 3_072 {
+        w[0] += 1;
+    }
+    if Second.is_book(&bytes(&w)) == 0 {
+        w[0] -= 1;
+    }
+    bytes(&w)
 }
 
 /// Changes the lent words.
@@ -576,14 +650,7 @@ impl Engine for Wrong {
             };
         }
         if self.slips("day_ahead: the words behind the last entry are read") {
-            let mut w = words(book).expect("words");
-            while Second.is_book(&bytes(&w)) == 1 && (w[0] & 0xFFFF) < 3_072 {
-                w[0] += 1;
-            }
-            if Second.is_book(&bytes(&w)) == 0 {
-                w[0] -= 1;
-            }
-            return Second.day_ahead(&bytes(&w), party, day);
+            return Second.day_ahead(&with_words_behind(book), party, day);
         }
         right
     }
@@ -744,6 +811,10 @@ impl Engine for Wrong {
             _ => (),
         }
         wrong
+    }
+
+    fn month_report(&self, book: &[u8], month: u32) -> MonthReport {
+        self.wrong_month_report(book, month)
     }
 
     fn collateral(&self, book: &[u8], case: &Case) -> Collateral {
@@ -1082,7 +1153,7 @@ impl Wrong {
     }
 }
 
-const SLIPS: [&str; 120] = [
+const SLIPS: [&str; 150] = [
     "is_book: status 3 is allowed",
     "is_book: a cancelled export is allowed",
     "is_book: more than 3,072 entries are allowed",
@@ -1163,6 +1234,36 @@ const SLIPS: [&str; 120] = [
     "month: secondary control is added",
     "month: the first group",
     "month: hour after hour",
+    "month_report: 12 before 1",
+    "month_report: refused as a day",
+    "month_report: the month on a refusal",
+    "month_report: month 1,200 is given",
+    "month_report: a month is cut to sixteen bits",
+    "month_report: exports are left out",
+    "month_report: exports are left out of the totals",
+    "month_report: a sale counts for its buyer too",
+    "month_report: withdrawn entries count",
+    "month_report: cancelled entries count",
+    "month_report: cancelled entries are in the totals",
+    "month_report: the first party alone",
+    "month_report: the latest entry alone",
+    "month_report: the words behind the last entry are read",
+    "month_report: the day before counts",
+    "month_report: the day after counts",
+    "month_report: months of thirty days",
+    "month_report: Februaries of 28 days",
+    "month_report: days from 1 on",
+    "month_report: the totals miss the first day",
+    "month_report: the totals miss the last day",
+    "month_report: the totals are in the last line",
+    "month_report: no totals",
+    "month_report: totals of the whole book",
+    "month_report: updates are left out",
+    "month_report: updates are in sum 12",
+    "month_report: updates come before money",
+    "month_report: money is left out",
+    "month_report: sums of 32 bits",
+    "month_report: the high word of an amount is lost",
     "collateral: months that are not used are held to their range",
     "collateral: capacity is free for a supplier",
     "collateral: days are netted before they are chosen",
@@ -1246,6 +1347,7 @@ fn slips_are_found_in_lists() {
         ("post: no updated programs", "post"),
         ("withdraw: on a closed day", "withdraw"),
         ("delivery: the program alone", "delivery"),
+        ("month_report: withdrawn entries count", "month_report"),
         ("control: an updated program counts", "control"),
         ("control: no second pass", "control"),
         ("control: no mark", "control"),
@@ -1302,6 +1404,7 @@ impl Engine for Stray {
         ceiling(offer: u32, bilateral: u32, futures: u32, capacity: u32) -> CeilingAnswer;
         first_day(month: u32) -> FirstDayAnswer;
         month(tables: Tables) -> MonthAnswer;
+        month_report(book: &[u8], month: u32) -> MonthReport;
         collateral(book: &[u8], case: &Case) -> Collateral;
         control(book: &mut [u8], day: u32) -> Controlled;
         read_file(book: &mut [u8], file: &[u8]) -> FileRead;

@@ -4,7 +4,8 @@
 
 use crate::engine::{bytes, Engine, Post, Tables};
 use second::{
-    Case, Collateral, Controlled, EntryRead, FileRead, FirstDayAnswer, Month, TallyAnswer,
+    Case, Collateral, Controlled, EntryRead, FileRead, FirstDayAnswer, Month, MonthReport,
+    TallyAnswer,
 };
 use std::fmt::Debug;
 
@@ -35,9 +36,24 @@ pub fn figures<E: Engine>(engine: &E) -> Worked<'_, E> {
     worked.items();
     worked.ceilings();
     worked.first_days();
+    worked.month_of_two_parties();
+    worked.ends_of_a_month();
+    worked.types_of_a_report();
+    worked.largest_report();
+    worked.reports_refused();
     worked.sample();
     worked.calendar();
     worked
+}
+
+/// The sums of a report that are not 0: line, place in it and sum.
+fn nonzero(report: &MonthReport) -> Vec<(usize, usize, u64)> {
+    let mut sums = Vec::new();
+    for (i, line) in report.lines.iter().enumerate() {
+        let of_line = line.iter().enumerate().filter(|(_, sum)| **sum > 0);
+        sums.extend(of_line.map(|(at, sum)| (i, at, *sum)));
+    }
+    sums
 }
 
 impl<E: Engine> Worked<'_, E> {
@@ -432,6 +448,122 @@ impl<E: Engine> Worked<'_, E> {
         self.holds("day 36,525", self.engine.day_ahead(&book, 1, 36_525).answer, 4);
     }
 
+    /// A report of a month, its first day and its days, in which just these figures are not 0: line, place, sum.
+    fn report(&mut self, book: &[u8], stated: (u32, u32, u32), sums: &[(usize, usize, u64)]) {
+        let got = self.engine.month_report(book, stated.0);
+        self.holds("a report", (got.answer, got.month), (0, stated.0));
+        self.holds("a month's days", (got.first_day, got.days), (stated.1, stated.2));
+        self.holds("a report's sums", nonzero(&got), sums.to_vec());
+    }
+
+    /// 02, T-01: February 2000, days 31 to 59. Type 6 has the export of 40; nothing counts of the 7,000 withdrawn, of
+    /// the 700,000 that control cancels (70,000,000 − 60,000,000), of the mark or of the days 30 and 60.
+    fn month_of_two_parties(&mut self) {
+        const MOST: u64 = 10_000_000_000_000;
+        let mut book = self.book(&[
+            (1, 31, 6, 2, 700_000),
+            (1, 31, 6, 0, 40),
+            (2, 31, 6, 1, 3),
+            (1, 31, 1, 0, 100),
+            (2, 31, 1, 0, 20),
+            (2, 31, 1, 0, 7_000),
+            (2, 31, 22, 0, 9),
+            (1, 31, 20, 0, MOST),
+            (2, 59, 20, 0, MOST),
+            (2, 59, 1, 0, 5),
+            (1, 59, 22, 0, 1),
+            (1, 30, 1, 0, 1_000_000),
+            (1, 60, 1, 0, 2_000_000),
+        ]);
+        self.holds("withdrawal of 7,000", self.engine.withdraw(&mut book, 5), 0);
+        let sums = |sales: u64| {
+            let first = [(0, 0, 120), (0, 5, sales), (0, 19, MOST), (0, 20, 9)];
+            let last = [(28, 0, 5), (28, 19, MOST), (28, 20, 1)];
+            let totals = [(29, 0, 125), (29, 5, sales), (29, 19, 2 * MOST), (29, 20, 10)];
+            [&first[..], &last, &totals].concat()
+        };
+        self.report(&book, (1, 31, 29), &sums(700_043));
+        let stated = Controlled { answer: 0, first: 1, second: 0, cancelled: 1 };
+        self.holds("control of day 31", self.engine.control(&mut book, 31), stated);
+        self.report(&book, (1, 31, 29), &sums(43));
+        self.report(&book, (0, 0, 31), &[(30, 0, 1_000_000), (31, 0, 1_000_000)]);
+        self.report(&book, (2, 60, 31), &[(0, 0, 2_000_000), (31, 0, 2_000_000)]);
+        self.report(&book, (3, 91, 30), &[]);
+    }
+
+    /// Months of 28 to 31 days: 10 on the day before, 200 on the first, 3,000 on the last, 40,000 on the day after.
+    fn ends_of_a_month(&mut self) {
+        for (month, first, days) in [
+            (0, 0, 31_u32),
+            (1, 31, 29),
+            (3, 91, 30),
+            (13, 397, 28),
+            (49, 1_492, 29),
+            (1_189, 36_191, 28),
+            (1_199, 36_494, 31),
+        ] {
+            let beside =
+                [(1, first - 1, 10), (2, first, 200), (999, first + days as i32 - 1, 3_000)];
+            let after = (3, first + days as i32, 40_000);
+            let posts: Vec<_> = beside
+                .into_iter()
+                .chain([after])
+                .filter(|&(_, day, _)| (0..=36_524).contains(&day))
+                .map(|(party, day, amount)| (party, day as u32, 3, 0, amount))
+                .collect();
+            let book = self.book(&posts);
+            let (last, totals) = (days as usize - 1, days as usize);
+            let sums = [(0, 2, 200), (last, 2, 3_000), (totals, 2, 3_200)];
+            self.report(&book, (month, first as u32, days), &sums);
+        }
+    }
+
+    /// 1,000 × k of each type k, k days after the first of March 2000, and as much of another party, of type 6 an
+    /// export: types 1 to 20 in order, then 22.
+    fn types_of_a_report(&mut self) {
+        let types = (1..=20).chain([22]);
+        let posts = types.clone().flat_map(|k: u32| {
+            let (day, amount) = (60 + k, 1_000 * u64::from(k));
+            [(1, day, k, if k == 6 { 2 } else { 0 }, amount), (999, day, k, 0, amount)]
+        });
+        let book = self.book(&posts.collect::<Vec<_>>());
+        let places = || types.clone().enumerate().map(|(at, k)| (at, k, 2_000 * u64::from(k)));
+        let mut sums: Vec<_> = places().map(|(at, k, sum)| (k as usize, at, sum)).collect();
+        sums.extend(places().map(|(at, _, sum)| (31, at, sum)));
+        self.report(&book, (2, 60, 31), &sums);
+    }
+
+    /// 3,072 sales of 10^13 kuruş on 2099-12-31, in one line and in the totals.
+    fn largest_report(&mut self) {
+        let line = [0x3000_0014, 0x4E72_A000, 0x5000_9184];
+        let file = [vec![0x1C00_03E7, 0x2000_8EAC], line.repeat(3_072)].concat();
+        let mut book = vec![0; 12 + 20 * 3_072];
+        self.holds("opening", self.engine.open(&mut book, 110, 600_000), 0);
+        let read = self.engine.read_file(&mut book, &bytes(&file));
+        self.holds("3,072 lines", read, FileRead { answer: 0, posted: 3_072 });
+        let most = 30_720_000_000_000_000;
+        self.report(&book, (1_199, 36_494, 31), &[(30, 19, most), (31, 19, most)]);
+        self.report(&book, (1_198, 36_464, 30), &[]);
+    }
+
+    /// 12 for a month above 1,199, after 1.
+    fn reports_refused(&mut self) {
+        let mut book = self.book(&[(1, 36_524, 1, 0, 5)]);
+        for cause in [12, 1] {
+            for month in [1_200, 1_201, 65_536, u32::MAX] {
+                let got = self.engine.month_report(&book, month);
+                let figures = (got.month, got.first_day, got.days, nonzero(&got));
+                self.holds("a month above 1,199", got.answer, cause);
+                self.holds("a refused report", figures, (0, 0, 0, Vec::new()));
+            }
+            book[0] = 200;
+        }
+        let got = self.engine.month_report(&book, 1_199);
+        self.holds("a report of no book", got.answer, 1);
+        let got = self.engine.month_report(&book[..9], 1_199);
+        self.holds("a report of nine bytes", got.answer, 1);
+    }
+
     fn sample(&mut self) {
         let file = bytes(&[
             0x1002_0001,
@@ -451,6 +583,9 @@ impl<E: Engine> Worked<'_, E> {
             self.holds("the sample's lines", read, FileRead { answer: 0, posted: 2 });
             self.both("the sample's seller", &book, (1, 9_000), first);
             self.both("the sample's buyer", &book, (2, 9_000), second);
+            // 2024-08-22
+            let sums = [(21, 5, 700_000), (21, 11, 500_000), (31, 5, 700_000), (31, 11, 500_000)];
+            self.report(&book, (295, 8_979, 31), &sums);
         }
         // The seller's program updated to 600,000 in a line of its own: 70,000,000 − 105 × 600,000 in delivery.
         let update = bytes(&[0x1001_0001, 0x2000_2328, 0x3000_0016, 0x4009_27C0, 0x5000_0000]);

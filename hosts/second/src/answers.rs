@@ -1,5 +1,7 @@
 //! What the calls return, and the case that collateral is asked for.
 
+use crate::report::{LINE_SUMS, MOST_LINES};
+
 /// A post: the number of the new entry, counted from 0.
 #[derive(Clone, Copy, Debug, PartialEq, Eq, Default)]
 pub struct Posted {
@@ -63,6 +65,17 @@ pub struct CeilingAnswer {
 pub struct FirstDayAnswer {
     pub answer: u32,
     pub day: u32,
+}
+
+/// A month report: the month, its first day, how many days it has, a line of
+/// sums for each of them, and after the last day's that of the month's totals.
+#[derive(Clone, Copy, Debug, PartialEq, Eq, Default)]
+pub struct MonthReport {
+    pub answer: u32,
+    pub month: u32,
+    pub first_day: u32,
+    pub days: u32,
+    pub lines: [[u64; LINE_SUMS]; MOST_LINES],
 }
 
 /// A control: parties detected in each pass, and entries cancelled.

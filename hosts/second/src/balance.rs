@@ -60,8 +60,8 @@ pub(crate) fn tallies(book: &Book, day: u32) -> BTreeMap<u32, Tally> {
         if !e.stands() || e.day != day || !is_volume(e.entry_type) {
             continue;
         }
-        if e.entry_type == BILATERAL_SALE && e.counterparty == 0 {
-            // An export to the System Operator, counted nowhere.
+        if e.is_export() {
+            // No sum of a tally counts it.
             continue;
         }
         let amount = i128::from(e.amount);

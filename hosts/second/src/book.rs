@@ -53,6 +53,11 @@ impl Entry {
         self.entry_type == BILATERAL_SALE && self.counterparty > 0
     }
 
+    /// A bilateral sale to the System Operator.
+    pub fn is_export(&self) -> bool {
+        self.entry_type == BILATERAL_SALE && self.counterparty == 0
+    }
+
     /// The five words of this entry.
     pub fn words(&self) -> [u32; 5] {
         let low = (self.amount & 0x0FFF_FFFF) as u32;

@@ -1,4 +1,4 @@
-//! The day file, and what the program "balance" prints for one.
+//! The day file, and what the programs "balance" and "month" print for one.
 
 use crate::answers::FileRead;
 use crate::balance::{day_ahead, delivery};
@@ -6,6 +6,7 @@ use crate::book::{
     decode, encode, fault_in, field, open_default, room, Entry, HIGH_BITS, LAST_DAY, LAST_PARTY,
     MOST_ENTRIES, STANDING,
 };
+use crate::report::{month_report, LAST_MONTH};
 use std::collections::BTreeSet;
 
 pub const MOST_FILE_BYTES: usize = 65_536;
@@ -104,19 +105,70 @@ pub fn named(file: &[u8]) -> Vec<(u32, u32)> {
     pairs.into_iter().collect()
 }
 
-/// What the program "balance" prints for a file on its standard input.
-pub fn balance_output(file: &[u8]) -> Vec<u8> {
+/// A default book of 3,072 entries into which the file was read, or what is printed where it is refused.
+fn book_of(file: &[u8]) -> Result<Vec<u32>, Vec<u8>> {
     let mut words = vec![0; 3 + 5 * MOST_ENTRIES];
     open_default(&mut words);
-    let read = read_file(&mut words, file);
-    if read.answer != 0 {
-        return format!("refused {}\n", read.answer).into_bytes();
+    match read_file(&mut words, file).answer {
+        0 => Ok(words),
+        cause => Err(refusal(cause)),
     }
+}
+
+fn refusal(cause: u32) -> Vec<u8> {
+    format!("refused {cause}\n").into_bytes()
+}
+
+/// What the program "balance" prints for a file on its standard input.
+pub fn balance_output(file: &[u8]) -> Vec<u8> {
+    let words = match book_of(file) {
+        Ok(words) => words,
+        Err(text) => return text,
+    };
     let mut text = String::from("party day ahead delivery\n");
     for (party, day) in named(file) {
         let ahead = day_ahead(&words, party, day).balance;
         let delivered = delivery(&words, party, day).balance;
         text.push_str(&format!("{party} {day} {ahead} {delivered}\n"));
+    }
+    text.into_bytes()
+}
+
+/// The month that the arguments name: one argument, of digits alone, 0 to 1,199.
+fn month_asked(arguments: &[&str]) -> Option<u32> {
+    let [digits] = arguments else {
+        return None;
+    };
+    if digits.is_empty() || !digits.bytes().all(|byte| byte.is_ascii_digit()) {
+        return None;
+    }
+    let without_zeros = digits.trim_start_matches('0');
+    if without_zeros.len() > 4 {
+        return None;
+    }
+    let month = format!("0{without_zeros}").parse().ok()?;
+    (month <= LAST_MONTH).then_some(month)
+}
+
+/// What the program "month" prints for its arguments and a file on its standard input (document 02, T-01).
+pub fn month_output(file: &[u8], arguments: &[&str]) -> Vec<u8> {
+    let words = match book_of(file) {
+        Ok(words) => words,
+        Err(text) => return text,
+    };
+    let Some(month) = month_asked(arguments) else {
+        return refusal(12);
+    };
+    let report = month_report(&words, month);
+    let days = report.first_day..report.first_day + report.days;
+    let mut text = String::new();
+    // After the days, in the line of the totals, the month.
+    for (number, line) in days.chain([month]).zip(report.lines) {
+        text.push_str(&number.to_string());
+        for sum in line {
+            text.push_str(&format!(" {sum}"));
+        }
+        text.push('\n');
     }
     text.into_bytes()
 }

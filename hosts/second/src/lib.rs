@@ -17,10 +17,11 @@ mod collateral;
 mod control;
 mod dayfile;
 mod month;
+mod report;
 
 pub use answers::{
     BalanceAnswer, Case, CeilingAnswer, Collateral, Controlled, Counted, EntryRead, FileRead,
-    FirstDayAnswer, Month, MonthAnswer, Posted, TallyAnswer,
+    FirstDayAnswer, Month, MonthAnswer, MonthReport, Posted, TallyAnswer,
 };
 pub use balance::{day_ahead, delivery, detected, tally};
 pub use book::{
@@ -33,5 +34,6 @@ pub use calendar::first_day;
 pub use ceiling::ceiling;
 pub use collateral::collateral;
 pub use control::control;
-pub use dayfile::{balance_output, named, read_file, MOST_FILE_BYTES};
+pub use dayfile::{balance_output, month_output, named, read_file, MOST_FILE_BYTES};
 pub use month::month_step;
+pub use report::{month_report, LAST_MONTH, LINE_SUMS, MOST_LINES};

@@ -1,4 +1,4 @@
-//! Edges of document 01 worked out by hand.
+//! Edges of documents 01 and 02 worked out by hand.
 
 use second::*;
 
@@ -1258,4 +1258,264 @@ fn first_days() {
         day += calendar::days_of_month(2000 + month / 12, 1 + month % 12);
     }
     assert_eq!(day, 146_097);
+}
+
+// The month report (document 02, T-01); a month of two parties is in figures.rs
+
+fn refused_report(answer: u32) -> MonthReport {
+    MonthReport { answer, ..MonthReport::default() }
+}
+
+/// Entries on the first and last day of a month and on the days beside them, of 10, 200, 3,000 and
+/// 40,000: just those of 200 and 3,000 are the month's.
+#[test]
+fn first_and_last_day_of_a_month() {
+    for (month, first, days) in [
+        (0_u32, 0_u32, 31_usize),
+        (1, 31, 29), // February 2000
+        (2, 60, 31),
+        (3, 91, 30),
+        (11, 335, 31),
+        (12, 366, 31),
+        (13, 397, 28), // February 2001
+        (14, 425, 31),
+        (49, 1_492, 29), // February 2004: 366 + 3 × 365 + 31
+        (1_188, 36_160, 31),
+        (1_189, 36_191, 28), // February 2099
+        (1_198, 36_464, 30),
+        (1_199, 36_494, 31), // to the last day, 36,524
+    ] {
+        let mut words = book_with(4, 110, 600_000);
+        if first > 0 {
+            posted(&mut words, 1, first - 1, 1, 0, 10);
+        }
+        posted(&mut words, 999, first, 1, 0, 200);
+        posted(&mut words, 2, first + days as u32 - 1, 1, 0, 3_000);
+        if month < 1_199 {
+            posted(&mut words, 3, first + days as u32, 1, 0, 40_000);
+        }
+        let mut stated =
+            MonthReport { month, first_day: first, days: days as u32, ..refused_report(0) };
+        stated.lines[0][0] = 200;
+        stated.lines[days - 1][0] = 3_000;
+        stated.lines[days][0] = 3_200;
+        assert_eq!(month_report(&words, month), stated, "{month}");
+        // The months beside it have the other entries, at their ends.
+        if month > 0 {
+            let before = month_report(&words, month - 1);
+            let line = before.days as usize;
+            assert_eq!((before.lines[line - 1][0], before.lines[line][0]), (10, 10), "{month}");
+        }
+        if month < 1_199 {
+            let after = month_report(&words, month + 1);
+            let line = after.days as usize;
+            assert_eq!((after.lines[0][0], after.lines[line][0]), (40_000, 40_000), "{month}");
+        }
+    }
+}
+
+/// The 1,200 months follow one another; an empty book has their lines, all of zeros.
+#[test]
+fn reports_of_an_empty_book() {
+    let words = book_with(0, 110, 600_000);
+    let mut lengths = [0; 4];
+    let mut day = 0;
+    for month in 0..1_200 {
+        let report = month_report(&words, month);
+        let stated = MonthReport { month, first_day: day, days: report.days, ..refused_report(0) };
+        assert_eq!(report, stated, "{month}");
+        day += report.days;
+        lengths[report.days as usize - 28] += 1;
+    }
+    assert_eq!(day, 36_525);
+    // Of 100 Februaries 25 are of leap years; 4 months of a year have 30 days, 7 have 31.
+    assert_eq!(lengths, [75, 25, 400, 700]);
+}
+
+/// 1 for what is no book, then 12 for a month above 1,199.
+#[test]
+fn refused_reports() {
+    let mut words = book_with(1, 110, 600_000);
+    posted(&mut words, 1, 0, 1, 0, 5);
+    for month in [1_200, 1_201, 2_400, 4_799, 65_535, 65_536, 1 << 31, u32::MAX] {
+        assert_eq!(month_report(&words, month), refused_report(12), "{month}");
+        assert_eq!(month_report(&words[..7], month), refused_report(1), "{month}");
+    }
+    assert_eq!(month_report(&words, 1_199).answer, 0);
+    for length in [0, 2, 3, 7] {
+        assert_eq!(month_report(&words[..length], 0), refused_report(1), "{length}");
+    }
+    words[0] = 0;
+    assert_eq!(month_report(&words, 0), refused_report(1));
+    assert_eq!(month_report(&words, 1_200), refused_report(1));
+}
+
+/// Type t has amount 2^t, t days after the first: types 1 to 20 stand at their number less 1, type 22 last.
+#[test]
+fn each_type_has_its_place() {
+    let mut words = book_with(42, 110, 600_000);
+    let types: Vec<u32> = (1..=20).chain([22]).collect();
+    for &t in &types {
+        let other = if t == 6 { 7 } else { 0 };
+        posted(&mut words, 5, 60 + t, t, other, 1 << t);
+    }
+    let mut stated = MonthReport { month: 2, first_day: 60, days: 31, ..refused_report(0) };
+    for (place, &t) in types.iter().enumerate() {
+        stated.lines[t as usize][place] = 1 << t;
+        stated.lines[31][place] = 1 << t;
+    }
+    assert_eq!(month_report(&words, 2), stated);
+    // The same once more by another party, and an export: type 6 is summed with it.
+    for &t in &types {
+        posted(&mut words, 999, 60 + t, t, 0, 1 << t);
+    }
+    stated.lines.iter_mut().flatten().for_each(|sum| *sum *= 2);
+    assert_eq!(month_report(&words, 2), stated);
+}
+
+/// Withdrawn and cancelled entries and marks count nowhere, sales to parties and exports in type 6.
+#[test]
+fn what_a_report_counts() {
+    let mut words = book_with(20, 100, 0);
+    posted(&mut words, 1, 40, 6, 2, 1); // cancelled
+    posted(&mut words, 1, 40, 6, 0, 20); // an export
+    posted(&mut words, 1, 40, 6, 0, 300); // an export withdrawn
+    posted(&mut words, 2, 41, 6, 1, 4_000);
+    posted(&mut words, 2, 41, 6, 1, 50_000); // withdrawn
+    posted(&mut words, 2, 41, 22, 0, 600_000); // withdrawn
+    for number in [2, 4, 5] {
+        assert_eq!(withdraw(&mut words, number), 0);
+    }
+    let both = |lines: [u64; 2], total: u64, words: &[u32]| {
+        let mut stated = MonthReport { month: 1, first_day: 31, days: 29, ..refused_report(0) };
+        stated.lines[9][5] = lines[0];
+        stated.lines[10][5] = lines[1];
+        stated.lines[29][5] = total;
+        assert_eq!(month_report(words, 1), stated);
+    };
+    both([21, 4_000], 4_021, &words);
+    assert_eq!(control(&mut words, 40), controlled(1, 0, 1));
+    both([20, 4_000], 4_020, &words);
+    assert_eq!(statuses(&words), [2, 0, 1, 0, 1, 1, 0]);
+    // Marks of a day without entries and of another month.
+    assert_eq!(control(&mut words, 42), controlled(0, 0, 0));
+    assert_eq!(control(&mut words, 60), controlled(0, 0, 0));
+    both([20, 4_000], 4_020, &words);
+    assert_eq!(month_report(&words, 2).lines, refused_report(0).lines);
+}
+
+/// 3,072 entries of 10^13 kuruş: 30,720,000,000,000,000 in one line or over all days of a month.
+#[test]
+fn largest_sums_of_a_report() {
+    let full = |entry_type: u32, other: u32, day: fn(u32) -> u32| {
+        let most = most_of(entry_type).unwrap();
+        let mut book = Book { coefficient: 110, tolerance: 0, entries: Vec::new() };
+        for i in 0..3_072 {
+            let counterparty = if i % 2 == 0 { other } else { 0 };
+            let (party, day) = (1 + i % 900, day(i));
+            let (status, amount) = (STANDING, most);
+            book.entries.push(Entry { party, day, entry_type, counterparty, status, amount });
+        }
+        let mut words = book_with(3_072, 110, 0);
+        encode(&book, &mut words);
+        month_report(&words, 1_199)
+    };
+    for (t, place, other, most) in [
+        (20, 19, 0, 10_000_000_000_000),
+        (17, 16, 0, 10_000_000_000_000),
+        (1, 0, 0, 1_000_000_000),
+        (6, 5, 950, 1_000_000_000),
+        (22, 20, 0, 1_000_000_000),
+    ] {
+        let mut stated =
+            MonthReport { month: 1_199, first_day: 36_494, days: 31, ..refused_report(0) };
+        stated.lines[31][place] = 3_072 * most;
+        let mut of_one_day = stated;
+        of_one_day.lines[30][place] = 3_072 * most;
+        assert_eq!(full(t, other, |_| 36_524), of_one_day);
+        // 3,072 is 99 × 31 + 3: the first three days have one more.
+        for day in 0..31 {
+            stated.lines[day][place] = if day < 3 { 100 * most } else { 99 * most };
+        }
+        assert_eq!(full(t, other, |i| 36_494 + i % 31), stated);
+    }
+    assert_eq!(3_072 * 10_000_000_000_000_u64, 30_720_000_000_000_000);
+}
+
+/// The words behind the last entry are none of the report's, an entry's words neither.
+#[test]
+fn a_report_ends_with_the_last_entry() {
+    let mut words = book_with(2, 110, 600_000);
+    posted(&mut words, 1, 0, 1, 0, 10);
+    let before = month_report(&words, 0);
+    posted(&mut words, 1, 0, 1, 0, 200);
+    assert_eq!(month_report(&words, 0).lines[31][0], 210);
+    words[0] -= 1;
+    assert_eq!(month_report(&words, 0), before);
+    assert_eq!(before.lines[31][0], 10);
+}
+
+// The program "month" (document 02, T-01)
+
+/// Lines of zeros for each day of a month and for the month itself.
+fn printed_zeros(month: u32, first: u32, days: u32) -> Vec<u8> {
+    let line = |number: u32| format!("{number}{}\n", " 0".repeat(21));
+    (first..first + days).chain([month]).map(line).collect::<String>().into_bytes()
+}
+
+#[test]
+fn months_of_an_empty_file() {
+    for (digits, month, first, days) in [
+        ("0", 0, 0, 31),
+        ("1", 1, 31, 29),
+        ("3", 3, 91, 30),
+        ("13", 13, 397, 28),
+        ("1199", 1_199, 36_494, 31),
+        // Leading zeros are digits.
+        ("00", 0, 0, 31),
+        ("0013", 13, 397, 28),
+        ("0000000000000000000000000000000000001199", 1_199, 36_494, 31),
+        ("0000000000000000000000000000000000000000", 0, 0, 31),
+    ] {
+        let stated = printed_zeros(month, first, days);
+        assert_eq!(month_output(&[], &[digits]), stated, "{digits}");
+    }
+}
+
+#[test]
+fn arguments_that_name_no_month() {
+    let wrong: [&[&str]; 24] = [
+        &[],
+        &["0", "0"],
+        &["0", ""],
+        &["", "0"],
+        &["1", "2", "3"],
+        &[""],
+        &["+0"],
+        &["-0"],
+        &["-1"],
+        &[" 0"],
+        &["0 "],
+        &["1 2"],
+        &["0\n"],
+        &["\t0"],
+        &["0x0"],
+        &["1a"],
+        &["1.0"],
+        &["1_199"],
+        &["\u{FF11}"],
+        &["1200"],
+        &["4294967296"],                               // 2^32
+        &["18446744073709551616"],                     // 2^64
+        &["340282366920938463463374607431768211456"],  // 2^128
+        &["1000000000000000000000000000000000000000"], // forty digits
+    ];
+    let refused = [0x1000_0000, 0x2000_0000]; // party 0
+    for arguments in wrong {
+        assert_eq!(month_output(&[], arguments), b"refused 12\n", "{arguments:?}");
+        // The file's own refusal comes first.
+        assert_eq!(month_output(&bytes(&refused), arguments), b"refused 3\n", "{arguments:?}");
+        assert_eq!(month_output(&[7], arguments), b"refused 2\n", "{arguments:?}");
+    }
+    assert_eq!(month_output(&bytes(&refused), &["0"]), b"refused 3\n");
 }

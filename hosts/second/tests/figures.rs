@@ -1,7 +1,7 @@
 //! Every figure of document 01, 'Figures to hold it to' and the sample of the
 //! day file, against the second calculation. Where a line names no tolerance,
 //! R is 110 and TM 600,000, named at opening (document 02, T-12). Then updated
-//! programs (document 02, T-02).
+//! programs (document 02, T-02) and month reports (T-01).
 
 use second::*;
 
@@ -322,4 +322,71 @@ fn sample_with_an_updated_program() {
     );
     let tally = tally(&words, 1, 9_000);
     assert_eq!((tally.sums[5], tally.sums[11], tally.sums[16]), (700_000, 500_000, 600_000));
+}
+
+/// A report that is done, of these sums alone: line, place in it and sum, both counted from 0.
+fn report(month: u32, first_day: u32, days: u32, sums: &[(usize, usize, u64)]) -> MonthReport {
+    let mut report = MonthReport { month, first_day, days, ..MonthReport::default() };
+    for &(line, place, sum) in sums {
+        report.lines[line][place] = sum;
+    }
+    report
+}
+
+/// Document 02, T-01: day 9,000 is 2024-08-22, the 22nd line of month 295, which has 31.
+#[test]
+fn month_report_of_the_sample() {
+    let mut words = default_book(2);
+    assert_eq!(read_file(&mut words, &bytes(&SAMPLE)).answer, 0);
+    let sums = [(21, 5, 700_000), (21, 11, 500_000), (31, 5, 700_000), (31, 11, 500_000)];
+    assert_eq!(month_report(&words, 295), report(295, 8_979, 31, &sums));
+    assert_eq!(month_report(&words, 294), report(294, 8_948, 31, &[]));
+    assert_eq!(month_report(&words, 296), report(296, 9_010, 30, &[]));
+}
+
+/// Two parties' February 2000, days 31 to 59: sums of all parties, type 6 with the export, nothing of
+/// the entry withdrawn, of the sale that control cancels, of the mark or of the days 30 and 60.
+#[test]
+fn month_report_of_two_parties() {
+    let mut words = starred_book(20);
+    posted(&mut words, 1, 31, 6, 2, 700_000); // cancelled: 70,000,000 − 60,000,000 is detected
+    posted(&mut words, 1, 31, 6, 0, 40); // an export
+    posted(&mut words, 2, 31, 6, 1, 3); // covered by the tolerance
+    posted(&mut words, 1, 31, 1, 0, 100);
+    posted(&mut words, 2, 31, 1, 0, 20);
+    posted(&mut words, 2, 31, 1, 0, 7_000); // withdrawn
+    posted(&mut words, 2, 31, 22, 0, 9);
+    posted(&mut words, 1, 31, 20, 0, 10_000_000_000_000);
+    posted(&mut words, 2, 59, 20, 0, 10_000_000_000_000);
+    posted(&mut words, 2, 59, 1, 0, 5);
+    posted(&mut words, 1, 59, 22, 0, 1);
+    posted(&mut words, 1, 30, 1, 0, 1_000_000);
+    posted(&mut words, 1, 60, 1, 0, 2_000_000);
+    assert_eq!(withdraw(&mut words, 5), 0);
+    assert_eq!(
+        control(&mut words, 31),
+        Controlled { answer: 0, first: 1, second: 0, cancelled: 1 }
+    );
+    let first = [(0, 0, 120), (0, 5, 43), (0, 19, 10_000_000_000_000), (0, 20, 9)];
+    let last = [(28, 0, 5), (28, 19, 10_000_000_000_000), (28, 20, 1)];
+    let totals = [(29, 0, 125), (29, 5, 43), (29, 19, 20_000_000_000_000), (29, 20, 10)];
+    let sums = [&first[..], &last, &totals].concat();
+    assert_eq!(month_report(&words, 1), report(1, 31, 29, &sums));
+    let january = [(30, 0, 1_000_000), (31, 0, 1_000_000)];
+    assert_eq!(month_report(&words, 0), report(0, 0, 31, &january));
+    let march = [(0, 0, 2_000_000), (31, 0, 2_000_000)];
+    assert_eq!(month_report(&words, 2), report(2, 60, 31, &march));
+}
+
+/// The program "month" on the sample: 31 lines of days, of which one has figures, and the month's.
+#[test]
+fn month_printed_of_the_sample() {
+    let sums = " 0 0 0 0 0 700000 0 0 0 0 0 500000 0 0 0 0 0 0 0 0 0\n";
+    let zeros = " 0".repeat(21) + "\n";
+    let mut text = String::new();
+    for day in 8_979..9_010 {
+        text += &format!("{day}{}", if day == 9_000 { sums } else { &zeros });
+    }
+    text += &format!("295{sums}");
+    assert_eq!(month_output(&bytes(&SAMPLE), &["295"]), text.as_bytes());
 }

@@ -1,5 +1,6 @@
 //! Laws of document 01 over drawn lists: the ledger of demand 3, the order of
-//! two books, and the words after the last entry.
+//! two books, and the words after the last entry; and those of document 02's
+//! month report.
 
 use second::*;
 
@@ -276,4 +277,95 @@ fn words_after_the_last_entry_are_never_read() {
         assert_eq!(one[used + written..], behind.0[written..]);
         assert_eq!(other[used + written..], behind.1[written..]);
     }
+}
+
+/// A book of entries about a month's ends, some withdrawn, some cancelled by controls.
+fn drawn_month(draw: &mut Draw, month: u32) -> Vec<u32> {
+    let first = first_day(month).day;
+    let days = first_day(month + 1).day - first;
+    let mut words = vec![0; 3 + 5 * 60];
+    open(&mut words, 100, draw.below(3) as u32 * 1_000);
+    let day = |draw: &mut Draw| match draw.below(6) {
+        0 => first.saturating_sub(1),
+        1 => (first + days).min(LAST_DAY),
+        2 => first,
+        3 => first + days - 1,
+        _ => first + draw.below(u64::from(days)) as u32,
+    };
+    for number in 0..draw.below(100) {
+        let e = drawn_record(draw);
+        let party = [1, 2, 3, 998, 999][draw.below(5) as usize];
+        let other = [0, 1, 2, 3, 998, 999][draw.below(6) as usize];
+        let (entry_type, counterparty) = match draw.below(2) {
+            0 => (6, other),
+            _ => (e.entry_type, e.counterparty),
+        };
+        let day = day(draw);
+        post(&mut words, party, day, entry_type, counterparty, e.amount);
+        if draw.below(6) == 0 {
+            withdraw(&mut words, draw.below(number + 1) as u32);
+        }
+        if draw.below(12) == 0 {
+            control(&mut words, day);
+        }
+    }
+    words
+}
+
+/// Document 02, T-01: each total is the sum over the book's standing records of its type in the month,
+/// and that of bilateral sales is all parties' bilateral purchases (B) plus exports. Each line is the
+/// parties' tallies, and the totals are those of the lines.
+#[test]
+fn totals_of_a_month_report() {
+    let mut draw = Draw(3);
+    let (mut cancelled, mut exported, mut bought) = (0, 0, 0);
+    for round in 0..50 {
+        let month = match round {
+            0 => 0,
+            1 => 1_199,
+            2 => 1,
+            _ => draw.below(1_200) as u32,
+        };
+        let words = drawn_month(&mut draw, month);
+        let report = month_report(&words, month);
+        assert_eq!(report.answer, 0);
+        let first = first_day(month).day;
+        let after = first_day(month + 1).day;
+        assert_eq!((report.first_day, report.days), (first, after - first));
+        let (lines, totals) = report.lines.split_at(report.days as usize);
+        let records = decode(&words).unwrap().entries;
+        let of_month = |e: &&Entry| e.status == STANDING && e.day >= first && e.day < after;
+        let sum = |of: &dyn Fn(&Entry) -> bool| -> u64 {
+            records.iter().filter(of_month).filter(|e| of(e)).map(|e| e.amount).sum()
+        };
+        for place in 0..21 {
+            let entry_type = if place < 20 { place as u32 + 1 } else { 22 };
+            assert_eq!(totals[0][place], sum(&|e| e.entry_type == entry_type));
+            assert_eq!(totals[0][place], lines.iter().map(|line| line[place]).sum());
+        }
+        assert!(totals[1..].iter().flatten().all(|sum| *sum == 0));
+
+        // The purchases and the volumes of parties 1 to 999, day by day.
+        let mut purchases = 0;
+        for (day, line) in (first..after).zip(lines) {
+            let (mut sums, mut of_day) = ([0; 17], 0);
+            for party in 1..=LAST_PARTY {
+                let tally = tally(&words, party, day);
+                of_day += tally.bought;
+                sums.iter_mut().zip(tally.sums).for_each(|(sum, own)| *sum += own);
+            }
+            let exports = sum(&|e| e.day == day && e.entry_type == 6 && e.counterparty == 0);
+            assert_eq!(line[5], of_day + exports);
+            sums[5] += exports;
+            assert_eq!(line[..16], sums[..16]);
+            assert_eq!(line[20], sums[16]);
+            purchases += of_day;
+        }
+        let exports = sum(&|e| e.entry_type == 6 && e.counterparty == 0);
+        assert_eq!(totals[0][5], purchases + exports);
+        cancelled += records.iter().filter(|e| e.status == CANCELLED).count();
+        exported += usize::from(exports > 0);
+        bought += usize::from(purchases > 0);
+    }
+    assert!(cancelled > 20 && exported > 20 && bought > 20, "{cancelled} {exported} {bought}");
 }

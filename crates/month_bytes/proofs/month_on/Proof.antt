@@ -3,7 +3,7 @@ use mathlib.Core.Path.{_≡_, sym, _∙_}
 use mathlib.Core.Bool.{true, _&&_}
 use borrow.Author.Needs.{needs}
 use borrow.Author.Tests.{not-true, not-false}
-use Rattle.month.specs.Ranges.{Placed}
+use Rattle.month_step.specs.Ranges.{Placed}
 use Rattle.month_bytes.specs.Tables.{tablesIn}
 use Rattle.month_bytes.specs.Parts.{wholeTables, bytesAgree}
 use Rattle.month_bytes.proofs.TableLaws.{lengths-refuse, places-refuse, hours-none, on-tables, placed}

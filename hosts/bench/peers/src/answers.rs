@@ -23,6 +23,7 @@ answers! {
     MonthAnswer { answer: u32, month: MonthFigures }
     Recordable { answer: u32, recordable: u32 }
     FirstDay { answer: u32, day: u32 }
+    MonthReport { answer: u32, month: u32, first_day: u32, days: u32, lines: [[u64; 21]; 32] }
     Controlled { answer: u32, first: u32, second: u32, cancelled: u32 }
     FileRead { answer: u32, posted: u32 }
     Collateral { answer: u32, margin: u64, trading: u64, imbalance: u64, risk: u64, yek: u64, total: u64 }

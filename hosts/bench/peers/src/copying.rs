@@ -103,6 +103,15 @@ pub fn collateral(book: &[u8], party: u32, day: u32) -> Collateral {
 }
 
 #[inline(never)]
+pub fn month_report(book: &[u8], month: u32) -> MonthReport {
+    let mut words = [0; FULL];
+    match decode(book, &mut words) {
+        Some(n) => in_place::month_report(&words[..n], month),
+        None => MonthReport::refused(1),
+    }
+}
+
+#[inline(never)]
 pub fn control(book: &mut [u8], day: u32) -> Controlled {
     writing(book, Controlled::refused(1), |w| in_place::control(w, day), |c| c.answer == 0)
 }

@@ -399,6 +399,35 @@ fn month_of(day: u32) -> Range<u32> {
     FIRST_DAYS[after - 1]..FIRST_DAYS[after]
 }
 
+// The place of a type's sum in a line: 1 to 20 in turn, then the updated program.
+fn place_in_line(kind: u32) -> Option<usize> {
+    match kind {
+        1..=20 => Some(kind as usize - 1),
+        22 => Some(20),
+        _ => None,
+    }
+}
+
+#[inline(never)]
+pub fn month_report(w: &[u32], month: u32) -> MonthReport {
+    if !valid(w) {
+        return MonthReport::refused(1);
+    }
+    if month >= 1200 {
+        return MonthReport::refused(12);
+    }
+    let (first_day, after) = (FIRST_DAYS[month as usize], FIRST_DAYS[month as usize + 1]);
+    let days = after - first_day;
+    let mut report = MonthReport { month, first_day, days, ..MonthReport::default() };
+    for e in entries(w).filter(|e| e.status == STANDING && (first_day..after).contains(&e.day)) {
+        if let Some(at) = place_in_line(e.kind) {
+            report.lines[(e.day - first_day) as usize][at] += e.amount;
+            report.lines[days as usize][at] += e.amount;
+        }
+    }
+    report
+}
+
 // The buyers of pairs with cancelled entries of the day and of another day of its month.
 fn repeated_buyers(w: &[u32], day: u32) -> Vec<u32> {
     let month = month_of(day);

@@ -7,8 +7,10 @@ use crate::call::Call;
 use crate::engine::bytes;
 use crate::rng::Rng;
 use crate::sizes::MOST_FILE;
+use second::calendar::period_of;
 use second::{
-    most_of, Book, BILATERAL_SALE, LAST_DAY, LAST_PARTY, MARK, MOST_MONEY, UPDATED_PROGRAM,
+    most_of, Book, BILATERAL_SALE, LAST_DAY, LAST_MONTH, LAST_PARTY, MARK, MOST_MONEY,
+    UPDATED_PROGRAM,
 };
 
 struct Line {
@@ -245,4 +247,27 @@ pub fn lone_file(rng: &mut Rng) -> Vec<u8> {
     } else {
         file(rng, &world, None)
     }
+}
+
+/// Arguments of the program "month": often one that names a month of the file, or none, two, a number past the last
+/// month, or what is no number.
+pub fn month_arguments(rng: &mut Rng, file: &[u8]) -> Vec<String> {
+    let mut days: Vec<u32> = second::named(file).into_iter().map(|(_, day)| day).collect();
+    days.push(rng.between(0, u64::from(LAST_DAY)) as u32);
+    let (year, of_year) = period_of(days[rng.index(days.len())].min(LAST_DAY));
+    let month = 12 * (year - 2000) + of_year - 1;
+    let digits = month.to_string();
+    let argument = match rng.below(16) {
+        0 => return Vec::new(),
+        1 => return vec![digits.clone(), rng.pick(&[digits.as_str(), ""]).to_string()],
+        2 => String::new(),
+        3 => format!("{}{digits}", rng.pick(&["+", "-", " ", "\t", "x", "/", ":", "\u{660}"])),
+        4 => format!("{digits}{}", rng.pick(&[" ", "\n", ".", "a", "_", "/", ":", "\u{660}"])),
+        5 => odd(rng, LAST_MONTH).to_string(),
+        6 => (u128::from(month) + (1 << rng.pick(&[16, 32, 64, 100]))).to_string(),
+        7 => (0..40).map(|_| rng.pick(&['0', '1', '9'])).collect(),
+        8 | 9 => "0".repeat(rng.index(45)) + &digits,
+        _ => digits,
+    };
+    vec![argument]
 }

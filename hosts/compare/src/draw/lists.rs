@@ -94,7 +94,8 @@ pub fn list_length(rng: &mut Rng) -> u64 {
 /// The next call of a list on the book as it stands.
 pub fn list_call(rng: &mut Rng, world: &World, lent: &[u8]) -> Call {
     let name = match rng.below(1_000) {
-        0..=499 => "post",
+        0..=484 => "post",
+        485..=499 => "month_report",
         500..=589 => "withdraw",
         590..=649 => "control",
         650..=709 => "read_file",

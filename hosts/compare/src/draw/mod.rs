@@ -9,7 +9,7 @@ mod files;
 mod lists;
 mod world;
 
-pub use files::lone_file;
+pub use files::{lone_file, month_arguments};
 pub use lists::{list_call, list_length, list_script, list_start};
 
 use crate::call::Call;
@@ -18,7 +18,7 @@ use books::{at_an_edge, book, chain, damage, lent, lent_with, seen};
 use figures::{case, ceiling, first_day, month};
 use files::{file, file_to_an_edge, long_file};
 use second::{Book, LAST_DAY, MOST_COEFFICIENT, MOST_ENTRIES, MOST_TOLERANCE};
-use world::{days_before, some_mark, Taste, World};
+use world::{days_before, days_of_a_month, some_mark, Taste, World};
 
 /// A figure at or past the edges of 0 to limit, or one that looks like a legal
 /// figure in its low bits.
@@ -79,6 +79,9 @@ fn world_of(rng: &mut Rng, name: &str) -> World {
         _ => rng.pick(&[Taste::Volumes, Taste::Bilateral, Taste::Money, Taste::Mixed]),
     };
     let mut world = World::draw(rng, taste);
+    if name == "month_report" && rng.percent(40) {
+        world.days = days_of_a_month(rng);
+    }
     if name == "collateral" {
         let day = match rng.below(2) {
             0 => legal(rng, 0, u64::from(LAST_DAY)) as u32,
@@ -207,6 +210,7 @@ pub fn call(rng: &mut Rng, name: &str, world: &World, book: Option<&Book>) -> Ca
         "ceiling" => ceiling(rng),
         "first_day" => first_day(rng),
         "month" => month(rng),
+        "month_report" => Call::MonthReport { month: world.asked_month(rng, book) },
         "collateral" => {
             // A round of its own has drawn the days before the last one of its world.
             let last = world.days[world.days.len() - 1];

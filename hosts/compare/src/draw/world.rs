@@ -3,10 +3,10 @@
 use super::{odd, odd_wide};
 use crate::engine::Post;
 use crate::rng::Rng;
-use second::calendar::{begin_of, days_of_month};
+use second::calendar::{begin_of, days_of_month, period_of};
 use second::{
-    most_of, Book, Entry, BILATERAL_SALE, CANCELLED, LAST_DAY, LAST_PARTY, MOST_COEFFICIENT,
-    MOST_MONEY, MOST_TOLERANCE, PROGRAM, STANDING, UPDATED_PROGRAM, WITHDRAWN,
+    most_of, Book, Entry, BILATERAL_SALE, CANCELLED, LAST_DAY, LAST_MONTH, LAST_PARTY,
+    MOST_COEFFICIENT, MOST_MONEY, MOST_TOLERANCE, PROGRAM, STANDING, UPDATED_PROGRAM, WITHDRAWN,
 };
 
 /// What a round's entries are mostly about.
@@ -120,6 +120,25 @@ impl World {
             0 => odd(rng, LAST_DAY),
             1 => rng.between(0, u64::from(LAST_DAY)) as u32,
             _ => self.day(rng),
+        }
+    }
+
+    /// A month to ask about: often that of an entry or the one beside it, sometimes any or none.
+    pub fn asked_month(&self, rng: &mut Rng, book: Option<&Book>) -> u32 {
+        let day = match book {
+            Some(book) if !book.entries.is_empty() && rng.percent(75) => {
+                book.entries[rng.index(book.entries.len())].day
+            }
+            _ => self.day(rng),
+        };
+        let (year, of_year) = period_of(day);
+        let month = 12 * (year - 2000) + of_year - 1;
+        match rng.below(20) {
+            0 | 1 => odd(rng, LAST_MONTH),
+            2 => rng.between(0, u64::from(LAST_MONTH)) as u32,
+            3 => month.saturating_sub(1),
+            4 => (month + 1).min(LAST_MONTH),
+            _ => month,
         }
     }
 
@@ -255,6 +274,14 @@ pub fn days_about_a_month(rng: &mut Rng) -> Vec<u32> {
         first + rng.below(u64::from(length)) as u32,
     ];
     (0..rng.between(2, 5)).map(|_| rng.pick(&near).min(LAST_DAY)).collect()
+}
+
+/// All days of a month, and those beside it.
+pub fn days_of_a_month(rng: &mut Rng) -> Vec<u32> {
+    let (year, month) = (rng.between(2000, 2099) as u32, rng.between(1, 12) as u32);
+    let first = begin_of(year, month);
+    let after = first + days_of_month(year, month);
+    (first.saturating_sub(1)..=after.min(LAST_DAY)).collect()
 }
 
 /// Days in and just outside the thirty days before a day.

@@ -9,7 +9,7 @@ use crate::rng::Rng;
 use crate::rounds::{lists, single};
 use second::{
     BalanceAnswer, Case, CeilingAnswer, Collateral, Controlled, Counted, EntryRead, FileRead,
-    FirstDayAnswer, MonthAnswer, Posted, TallyAnswer,
+    FirstDayAnswer, MonthAnswer, MonthReport, Posted, TallyAnswer,
 };
 
 /// The second calculation with one slip, in its calls on words or in those on bytes.
@@ -138,6 +138,7 @@ impl Engine for Lending {
         tally(party: u32, day: u32) -> TallyAnswer;
         day_ahead(party: u32, day: u32) -> BalanceAnswer;
         delivery(party: u32, day: u32) -> BalanceAnswer;
+        month_report(month: u32) -> MonthReport;
         collateral(case: &Case) -> Collateral;
     }
 
@@ -169,6 +170,7 @@ const ON_WORDS: &[&str] = &[
     "day_ahead",
     "delivery",
     "month",
+    "month_report",
     "collateral",
     "control",
     "read_file",
@@ -182,6 +184,7 @@ const ON_ENTRIES: &[&str] = &[
     "tally",
     "day_ahead",
     "delivery",
+    "month_report",
     "collateral",
     "control",
     "read_file",

@@ -1,7 +1,7 @@
 -- `host::books::fanzsoreb_count` meets its contract. Assumes nothing.
 use mathlib.Core.Path.{_∙_, ap}
 use borrow.Author.Needs.{needs}
-use Rattle.byte_calls.proofs.ReplyLaws.{count-reply}
+use Rattle.byte_questions.proofs.ReplyLaws.{count-reply}
 use Rattle.host.proofs.books.fanzsoreb_count.Statement.{statement}
 use Rattle.host.proofs.books.fanzsoreb_count.Tie as tie
 

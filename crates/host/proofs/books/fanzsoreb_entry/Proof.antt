@@ -1,7 +1,7 @@
 -- `host::books::fanzsoreb_entry` meets its contract. Assumes nothing.
 use mathlib.Core.Path.{_∙_, ap}
 use borrow.Author.Needs.{needs}
-use Rattle.byte_calls.proofs.ReplyLaws.{entry-reply}
+use Rattle.byte_questions.proofs.ReplyLaws.{entry-reply}
 use Rattle.host.proofs.books.fanzsoreb_entry.Statement.{statement}
 use Rattle.host.proofs.books.fanzsoreb_entry.Tie as tie
 

@@ -4,7 +4,7 @@ use borrow.Author.Needs.{needs}
 use lib.Dec.{eqb}
 use Rattle.word_bytes.specs.Bytes.{yesNo}
 use Rattle.word_bytes.proofs.CodingLaws.{yes-byte}
-use Rattle.byte_calls.proofs.ReplyLaws.{book-reply}
+use Rattle.byte_questions.proofs.ReplyLaws.{book-reply}
 use Rattle.host.proofs.books.fanzsoreb_is_book.Statement.{statement}
 use Rattle.host.proofs.books.fanzsoreb_is_book.Tie as tie
 

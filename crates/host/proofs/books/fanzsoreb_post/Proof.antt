@@ -2,8 +2,8 @@
 use mathlib.Core.Path.{_∙_, ap}
 use borrow.Author.Needs.{needs}
 use Rattle.rules.specs.Entry.{keyOf}
-use Rattle.byte_calls.specs.Requests.{changeOf}
-use Rattle.byte_calls.proofs.ActLaws.{post-answer}
+use Rattle.byte_changes.specs.Requests.{changeOf}
+use Rattle.byte_changes.proofs.ActLaws.{post-answer}
 use Rattle.host.proofs.books.fanzsoreb_post.Statement.{statement}
 use Rattle.host.proofs.books.fanzsoreb_post.Tie as tie
 

@@ -1,8 +1,8 @@
 -- `host::books::fanzsoreb_withdraw` meets its contract. Assumes nothing.
 use mathlib.Core.Path.{_∙_, ap}
 use borrow.Author.Needs.{needs}
-use Rattle.byte_calls.specs.Requests.{changeOf}
-use Rattle.byte_calls.proofs.ActLaws.{withdraw-answer}
+use Rattle.byte_changes.specs.Requests.{changeOf}
+use Rattle.byte_changes.proofs.ActLaws.{withdraw-answer}
 use Rattle.host.proofs.books.fanzsoreb_withdraw.Statement.{statement}
 use Rattle.host.proofs.books.fanzsoreb_withdraw.Tie as tie
 

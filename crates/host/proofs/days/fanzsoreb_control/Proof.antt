@@ -1,8 +1,8 @@
 -- `host::days::fanzsoreb_control` meets its contract. Assumes nothing.
 use mathlib.Core.Path.{_∙_, ap}
 use borrow.Author.Needs.{needs}
-use Rattle.byte_calls.specs.Requests.{changeOf}
-use Rattle.byte_calls.proofs.ActLaws.{control-answer}
+use Rattle.byte_changes.specs.Requests.{changeOf}
+use Rattle.byte_changes.proofs.ActLaws.{control-answer}
 use Rattle.host.proofs.days.fanzsoreb_control.Statement.{statement}
 use Rattle.host.proofs.days.fanzsoreb_control.Tie as tie
 

@@ -1,7 +1,7 @@
 -- `host::positions::fanzsoreb_day_ahead` meets its contract. Assumes nothing.
 use mathlib.Core.Path.{_∙_, ap}
 use borrow.Author.Needs.{needs}
-use Rattle.byte_calls.proofs.ReplyLaws.{day-ahead-reply}
+use Rattle.byte_questions.proofs.ReplyLaws.{day-ahead-reply}
 use Rattle.host.proofs.positions.fanzsoreb_day_ahead.Statement.{statement}
 use Rattle.host.proofs.positions.fanzsoreb_day_ahead.Tie as tie
 

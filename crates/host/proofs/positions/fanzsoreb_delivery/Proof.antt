@@ -1,7 +1,7 @@
 -- `host::positions::fanzsoreb_delivery` meets its contract. Assumes nothing.
 use mathlib.Core.Path.{_∙_, ap}
 use borrow.Author.Needs.{needs}
-use Rattle.byte_calls.proofs.ReplyLaws.{delivery-reply}
+use Rattle.byte_questions.proofs.ReplyLaws.{delivery-reply}
 use Rattle.host.proofs.positions.fanzsoreb_delivery.Statement.{statement}
 use Rattle.host.proofs.positions.fanzsoreb_delivery.Tie as tie
 

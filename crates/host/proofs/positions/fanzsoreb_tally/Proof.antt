@@ -1,7 +1,7 @@
 -- `host::positions::fanzsoreb_tally` meets its contract. Assumes nothing.
 use mathlib.Core.Path.{_∙_, ap}
 use borrow.Author.Needs.{needs}
-use Rattle.byte_calls.proofs.ReplyLaws.{tally-reply}
+use Rattle.byte_questions.proofs.ReplyLaws.{tally-reply}
 use Rattle.host.proofs.positions.fanzsoreb_tally.Statement.{statement}
 use Rattle.host.proofs.positions.fanzsoreb_tally.Tie as tie
 

@@ -9,8 +9,8 @@ use lib.ListN.{drop, getD}
 use borrow.Author.Needs.{needs}
 use Rattle.numbers.specs.Tests.{all}
 use Rattle.rules.specs.Month.{volumeOk}
-use Rattle.month.proofs.ScanLaws.{all-more, all-end}
-use Rattle.month.proofs.BitLaws.{exact32}
+use Rattle.month_step.proofs.ScanLaws.{all-more, all-end}
+use Rattle.month_step.proofs.BitLaws.{exact32}
 use Rattle.month_bytes.specs.Tables.{figuresOf}
 use Rattle.month_bytes.proofs.FigureLaws.{length-figures}
 use Rattle.month_bytes.proofs.figures.volumes_ok.Statement.{statement}

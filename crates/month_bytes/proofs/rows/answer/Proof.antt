@@ -6,7 +6,7 @@ use borrow.Author.Tests.{not-true, not-false}
 use Rattle.numbers.specs.Causes.{unless}
 use Rattle.rules.specs.Refusals.{badFigure}
 use Rattle.rules.specs.Month.{Tables, tablesOf, monthCause}
-use Rattle.month.proofs.RangeLaws.{tests-decide, answered, refused-answer, done-answer}
+use Rattle.month_step.proofs.RangeLaws.{tests-decide, answered, refused-answer, done-answer}
 use Rattle.month_bytes.specs.Tables.{figuresOf}
 use Rattle.month_bytes.proofs.rows.answer.Statement.{statement}
 use Rattle.month_bytes.proofs.rows.answer.Tie as tie

@@ -7,7 +7,7 @@ use borrow.Author.Needs.{needs}
 use Rattle.numbers.specs.Sums.{sum}
 use Rattle.rules.specs.Month.{Tables, tablesOf, weightedPrices, weights}
 use Rattle.rules.proofs.Limits.{MonthRanges, month-ranges}
-use Rattle.month.proofs.TableLaws.{RowAdded, row-added, row-place, priced, besideDm, figures-are}
+use Rattle.month_step.proofs.TableLaws.{RowAdded, row-added, row-place, priced, besideDm, figures-are}
 use Rattle.month_bytes.specs.Tables.{figuresOf}
 use Rattle.month_bytes.proofs.rows.figures.Statement.{statement}
 use Rattle.month_bytes.proofs.rows.figures.Tie as tie

@@ -2,7 +2,7 @@
 use mathlib.Core.Path.{_∙_}
 use native.Mathlib.Omega.{arith}
 use borrow.Author.Needs.{needs}
-use Rattle.month.proofs.CutLaws.{priced-cut, weighted-cut, weights-cut}
+use Rattle.month_step.proofs.CutLaws.{priced-cut, weighted-cut, weights-cut}
 use Rattle.month_bytes.proofs.FigureLaws.{length-figures}
 use Rattle.month_bytes.proofs.rows.row_sums.Statement.{statement}
 use Rattle.month_bytes.proofs.rows.row_sums.Tie as tie

@@ -4,7 +4,7 @@ use native.Mathlib.Omega.{arith}
 use borrow.Author.Needs.{needs}
 use mir.Syntax.{w64}
 use mir.ValLaws.{toZ-ofZ}
-use Rattle.month.proofs.CutLaws.{dm-cut, volume-cut}
+use Rattle.month_step.proofs.CutLaws.{dm-cut, volume-cut}
 use Rattle.month_bytes.proofs.FigureLaws.{length-figures}
 use Rattle.month_bytes.proofs.rows.row_volume.Statement.{statement}
 use Rattle.month_bytes.proofs.rows.row_volume.Tie as tie

@@ -1,3 +1,0 @@
-pub mod ActLaws
-pub mod OpenLaws
-pub mod ReplyLaws

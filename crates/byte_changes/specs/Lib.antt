@@ -1,0 +1,2 @@
+-- Requests of a book in lent bytes.
+pub mod Requests

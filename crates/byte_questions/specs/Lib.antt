@@ -1,0 +1,2 @@
+-- Questions about a book in lent bytes.
+pub mod Questions

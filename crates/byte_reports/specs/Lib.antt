@@ -1,0 +1,2 @@
+-- The month report on a book in lent bytes.
+pub mod Reports

@@ -1,0 +1,2 @@
+-- What the program `month` prints (02, T-01).
+pub mod MonthText
