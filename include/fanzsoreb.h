@@ -60,7 +60,7 @@
  * book's bytes takes stack by the number of entries, or by the length where that is less: up to 25 entries at most 6
  * KiB, up to 127 at most 9, up to 768 at most 21, above that at most 66; an opening takes none. The lines of a day file
  * count as entries; a day file into a book that has a day's mark takes 36 KiB more, a control that is done 135, a month
- * report 29 at most, its answer in its caller's frame among them.
+ * report 10 at most, its answer in its caller's frame among them.
  */
 #ifndef FANZSOREB_H
 #define FANZSOREB_H
@@ -89,11 +89,11 @@ extern "C" {
  * control lower since 2.1.1, those of a report new in 2.2.0. */
 #define FANZSOREB_STACK_FIGURES 16384         /* version, detected, ceiling, first_day */
 #define FANZSOREB_STACK_WORDS 16384           /* on a book's words, but for the next three; the month on words */
-#define FANZSOREB_STACK_REPORT_WORDS 32768    /* a month report of a book's words, its answer on the same stack */
+#define FANZSOREB_STACK_REPORT_WORDS 24576    /* a month report of a book's words, its answer on the same stack */
 #define FANZSOREB_STACK_FILE_WORDS 49152      /* a file into a book's words */
 #define FANZSOREB_STACK_CONTROL_WORDS 155648  /* control on a book's words */
 #define FANZSOREB_STACK_BOOK 81920            /* on a book's bytes, but for the next three */
-#define FANZSOREB_STACK_REPORT 114688         /* a month report of a book's bytes, its answer on the same stack */
+#define FANZSOREB_STACK_REPORT 98304          /* a month report of a book's bytes, its answer on the same stack */
 #define FANZSOREB_STACK_FILE 114688           /* a file into a book's bytes */
 #define FANZSOREB_STACK_CONTROL 221184        /* control on a book's bytes */
 #define FANZSOREB_STACK_MONTH 24576           /* the month on bytes */

@@ -243,7 +243,7 @@ static const struct { uint32_t entries; size_t length, added, taken; } sizes[] =
     { 127, FANZSOREB_BOOK_BYTES, 8 * 1024, 9 * 1024 },
     { 768, FANZSOREB_BOOK_BYTES, 20 * 1024, 21 * 1024 }
 };
-enum { SIZES = sizeof sizes / sizeof sizes[0], TAKEN_BY_A_FULL_BOOK = 66 * 1024, MORE_BY_A_REPORT = 29 * 1024 };
+enum { SIZES = sizeof sizes / sizeof sizes[0], TAKEN_BY_A_FULL_BOOK = 66 * 1024, MORE_BY_A_REPORT = 10 * 1024 };
 
 static size_t with_more(const need *n, size_t taken)
 {
