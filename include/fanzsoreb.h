@@ -60,7 +60,7 @@
  * book's bytes takes stack by the number of entries, or by the length where that is less: up to 25 entries at most 6
  * KiB, up to 127 at most 9, up to 768 at most 21, above that at most 66; an opening takes none. The lines of a day file
  * count as entries; a day file into a book that has a day's mark takes 36 KiB more, a control that is done 135, a month
- * report 10 at most, its answer in its caller's frame among them.
+ * report 9, its answer in its caller's frame among them.
  */
 #ifndef FANZSOREB_H
 #define FANZSOREB_H

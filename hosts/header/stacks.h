@@ -227,8 +227,7 @@ static const need byte_calls[] = {
     NEED(on_day_ahead, WORDS, DONE),
     NEED(on_delivery, WORDS, DONE),
     NEED(on_collateral, WORDS, DONE),
-    { "on_month_report", on_month_report, FANZSOREB_STACK_WORDS + FANZSOREB_STACK_REPORT - FANZSOREB_STACK_BOOK,
-      FANZSOREB_DONE, FULL, FANZSOREB_BOOK_BYTES },
+    NEED(on_month_report, REPORT_WORDS, DONE),
     NEED(on_one_line, FILE_WORDS, DONE),
     NEED(on_control, CONTROL_WORDS, DONE)
 };
@@ -243,7 +242,7 @@ static const struct { uint32_t entries; size_t length, added, taken; } sizes[] =
     { 127, FANZSOREB_BOOK_BYTES, 8 * 1024, 9 * 1024 },
     { 768, FANZSOREB_BOOK_BYTES, 20 * 1024, 21 * 1024 }
 };
-enum { SIZES = sizeof sizes / sizeof sizes[0], TAKEN_BY_A_FULL_BOOK = 66 * 1024, MORE_BY_A_REPORT = 10 * 1024 };
+enum { SIZES = sizeof sizes / sizeof sizes[0], TAKEN_BY_A_FULL_BOOK = 66 * 1024, MORE_BY_A_REPORT = 9 * 1024 };
 
 static size_t with_more(const need *n, size_t taken)
 {
