@@ -35,13 +35,17 @@ install: all
 	install -m 644 include/fanzsoreb.h $(DESTDIR)$(PREFIX)/include/
 	echo "$$PKGCONFIG" > $(DESTDIR)$(PREFIX)/lib/pkgconfig/fanzsoreb.pc
 
-# the second calculation's own tests; the examples, worked figures and a random comparison on a copy installed under build/
-test: all
-	cd hosts && cargo test --offline --quiet
+# the tests of the second calculation and of the comparison; the examples, worked figures and a random comparison on a copy
+# installed under build/
+test: all second-test
 	$(MAKE) install PREFIX=$(CURDIR)/build/installed DESTDIR=
-	hosts/accept $(CURDIR)/build/installed $(ROUNDS)
+	MAKEFLAGS= hosts/accept $(CURDIR)/build/installed $(ROUNDS)
+
+# without an engine, so that it may run beside the library's build
+second-test:
+	cd hosts && MAKEFLAGS= cargo test --offline --quiet --features compare/selftest
 
 clean:
 	rm -rf build
 
-.PHONY: all install test clean
+.PHONY: all install test second-test clean

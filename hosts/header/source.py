@@ -52,8 +52,9 @@ def of_source(crates):
     for path in (crates / "host/src").glob("*.rt"):
         for name, given, answer in re.findall(r'pub extern "C" fn (\w+)\(([^)]*)\) -> (\w+)', path.read_text()):
             found.add(c_type(answer) + " " + name + "(" + (", ".join(map(c_parameter, parts(given))) or "void") + ")")
-    LENGTHS.update(re.findall(r"pub const (\w+): usize = (\d+);", (crates / "rules/src/lib.rt").read_text()))
-    for name, fields in re.findall(r"#\[repr\(C\)\]\npub struct (\w+) \{(.*?)\n\}", (crates / "rules/src/lib.rt").read_text(), re.S):
+    types = "".join((crates / name / "src/lib.rt").read_text() for name in ("case_figures", "rules"))
+    LENGTHS.update(re.findall(r"pub const (\w+): usize = (\d+);", types))
+    for name, fields in re.findall(r"#\[repr\(C\)\]\npub struct (\w+) \{(.*?)\n\}", types, re.S):
         if name in STRUCTS:
             found.add("fanzsoreb_" + STRUCTS[name] + " { " + "; ".join(map(c_field, parts(fields))) + " }")
     return found

@@ -9,7 +9,7 @@ use Rattle.rules.specs.DayFile.{wordsOf}
 use Rattle.rules.specs.Balance.{partyDayCause}
 use Rattle.rules.specs.Collateral.{refusedCollateral, collateralCause, collateralAnswer}
 use Rattle.rules.specs.MonthReport.{refusedReport, monthReportCause, monthReport}
-use Rattle.rules.specs.declared.Case.{Case}
+use Rattle.case_figures.specs.declared.Case.{Case}
 use Rattle.rules.proofs.ReadLaws.{same-collateral, same-report}
 use Rattle.word_bytes.specs.Bytes.{onWords}
 use Rattle.word_bytes.specs.Coding.{Decoded}

@@ -8,7 +8,7 @@ ghost use Rattle.rules.specs.Collateral.{collateralAnswer, refusedCollateral};
 ghost use Rattle.word_bytes.specs.Bytes.{onWords};
 ghost use Rattle.word_bytes.specs.Coding.{neededFor};
 ghost use Rattle.word_bytes.specs.Sizes.{wideWords};
-use rules::Case;
+use case_figures::Case;
 use rules::Collateral;
 use rules::layout::BOOK_WORDS;
 use word_bytes::sizes::MIDDLE_WORDS;

@@ -14,7 +14,7 @@ use Rattle.rules.specs.Entry.{partyOk, dayOk}
 use Rattle.rules.specs.Words.{isBook, entries}
 use Rattle.rules.specs.Balance.{partyDayCause}
 use Rattle.rules.specs.Collateral.{tradingDays, moneyOf, debts, debt, quarters, margin, trading, imbalance, risk, yek, totalOf, figuresOk, collateralCause, collateralOf, collateralAnswer, refusedCollateral}
-use Rattle.rules.specs.declared.Case.{Case}
+use Rattle.case_figures.specs.declared.Case.{Case}
 use Rattle.rules.specs.declared.Collateral.{Collateral}
 use Rattle.rules.proofs.WordLaws.{book-facts}
 use Rattle.rules.proofs.Limits.{case-ranges, debt-sum, trading-product, total-limit}

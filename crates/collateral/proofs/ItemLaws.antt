@@ -11,8 +11,8 @@ use Rattle.numbers.specs.Tests.{all}
 use Rattle.numbers.specs.Rounding.{roundUp}
 use Rattle.numbers.specs.Signed.{isNegative}
 use Rattle.rules.specs.Collateral.{usedMonths, highestPrice, imbalanceOver, imbalance, monthOk}
-use Rattle.rules.specs.declared.Month.{Month}
-use Rattle.rules.specs.declared.Case.{Case}
+use Rattle.case_figures.specs.declared.Month.{Month}
+use Rattle.case_figures.specs.declared.Case.{Case}
 use Rattle.rules.proofs.Limits.{CaseRanges, highest-limit, imbalance-product}
 use Rattle.collateral.specs.Months.{lowestOf}
 

@@ -15,8 +15,9 @@ use mir.ValLaws.{toZ-ofZ}
 use borrow.Author.Tests.{le-ltb}
 use Rattle.numbers.specs.Tests.{all}
 use Rattle.numbers.specs.Signed.{lower}
-use Rattle.rules.specs.Collateral.{noMonth, highestPrice, lowestVolume}
-use Rattle.rules.specs.declared.Month.{Month}
+use Rattle.rules.specs.Collateral.{highestPrice, lowestVolume}
+use Rattle.case_figures.specs.CaseFigures.{noMonth}
+use Rattle.case_figures.specs.declared.Month.{Month}
 use Rattle.collateral.specs.Months.{lowestOf}
 
 -- a volume, read back from its bits

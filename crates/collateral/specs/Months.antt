@@ -2,7 +2,7 @@
 use mathlib.Core.List.{List, [], _∷_}
 use lib.IntN.{ℤ, pos}
 use Rattle.rules.specs.Collateral.{lowestVolume}
-use Rattle.rules.specs.declared.Month.{Month}
+use Rattle.case_figures.specs.declared.Month.{Month}
 
 unfoldable pub lowestOf : List Month → ℤ
 lowestOf [] = pos 0

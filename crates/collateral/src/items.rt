@@ -6,7 +6,7 @@ ghost use lib.Dec.{eqb, ltb};
 ghost use Rattle.rules.specs.Words.{isBook, entries};
 ghost use Rattle.rules.specs.Collateral.{generationMargin, margin, tradingDays, trading, imbalance, risk, yek, figuresOk, collateralOf};
 use crate::months;
-use rules::Case;
+use case_figures::Case;
 use rules::Collateral;
 
 const FULL_MARGIN: u64 = 20000000;

@@ -1,7 +1,7 @@
 // Collateral: each item and the total of a case (document 01, 'Collateral').
 ghost use mathlib.Core.Path.{_≡_};
 ghost use Rattle.rules.specs.Collateral.{collateralCause, collateralAnswer};
-use rules::Case;
+use case_figures::Case;
 use rules::Collateral;
 use rules::causes::BAD_FIGURE;
 

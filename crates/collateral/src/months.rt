@@ -6,7 +6,7 @@ ghost use Rattle.numbers.specs.Signed.{lower};
 ghost use Rattle.numbers.specs.Tests.{all};
 ghost use Rattle.rules.specs.Collateral.{highestPrice, monthOk};
 ghost use Rattle.collateral.specs.Months.{lowestOf};
-use rules::Month;
+use case_figures::Month;
 
 // The lower of two volumes.
 pub fn lower_of(a: i64, b: i64) -> i64

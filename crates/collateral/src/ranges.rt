@@ -2,7 +2,7 @@
 ghost use mathlib.Core.Path.{_≡_};
 ghost use Rattle.rules.specs.Collateral.{figuresOk};
 use crate::months;
-use rules::Case;
+use case_figures::Case;
 
 // All figures are held to their ranges, month answers only if used.
 pub fn figures_ok(case: Case) -> bool

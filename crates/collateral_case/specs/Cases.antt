@@ -2,8 +2,8 @@
 use mathlib.Core.List.{[], _∷_}
 use Prim.Native.Nat.{ℕ}
 use lib.IntN.{ℤ}
-use Rattle.rules.specs.declared.Month.{Month}
-use Rattle.rules.specs.declared.Case.{Case}
+use Rattle.case_figures.specs.declared.Month.{Month}
+use Rattle.case_figures.specs.declared.Case.{Case}
 
 abbrev pub monthOf : ℕ → ℤ → Month
 monthOf aosmf aedm = record { aosmf = aosmf; aedm = aedm }

@@ -2,13 +2,13 @@
 ghost use mathlib.Core.Path.{_≡_};
 ghost use mathlib.Core.List.{[], _∷_};
 ghost use Rattle.collateral_case.specs.Cases.{monthOf, caseOf};
-use rules::Asked;
-use rules::Case;
-use rules::Group;
-use rules::Margin;
-use rules::Month;
-use rules::Trading;
-use rules::Yek;
+use case_figures::Asked;
+use case_figures::Case;
+use case_figures::Group;
+use case_figures::Margin;
+use case_figures::Month;
+use case_figures::Trading;
+use case_figures::Yek;
 
 fn trading_of(nonbusiness: u32, holiday: u32, defaults: u32) -> Trading
     ensures { λ r. ⌜ r ≡ record { nonbusiness = nonbusiness; holiday = holiday; defaults = defaults } ⌝ }

@@ -1,11 +1,11 @@
 // Collateral against the list on standard input, whose figures are worked out by hand from document 01, 'Collateral'.
 mod figures;
 
+use case_figures::Case;
 use caselist::rows::Row;
 use caselist::score::Score;
 use caselist::score::told;
 use figures::with;
-use rules::Case;
 use rules::Collateral;
 
 // Each item and the total.

@@ -20,7 +20,8 @@ use Rattle.rules.specs.declared.FileRead.{FileRead}
 use Rattle.rules.proofs.WordLaws.{book-facts, room-words}
 use Rattle.rules.proofs.CancelLaws.{lines-legal}
 use Rattle.rules.proofs.CallLaws.{FilePasses, file-passes, file-cause, refused-words, refused-figures, done-figures, done-words}
-use Rattle.dayfile.specs.Check.{nonePosted, storedFrom}
+use Rattle.file_check.specs.Check.{nonePosted}
+use Rattle.dayfile.specs.Stored.{storedFrom}
 use Rattle.dayfile.proofs.PostLaws.{posted-all}
 
 abbrev Answers : FileRead → List ℕ → List ℕ → List ℕ → Type 0

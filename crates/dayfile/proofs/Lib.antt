@@ -1,5 +1,3 @@
--- Laws of checking a file and of posting what it holds; the folders hold the proof of a function each.
-pub mod CheckLaws
-pub mod AnswerLaws
+-- Laws of posting what a file holds; the folders hold the proof of a function each.
 pub mod PostLaws
 pub mod FileLaws

@@ -22,9 +22,10 @@ use Rattle.rules.proofs.BookLaws.{stored-words, new-legal}
 use Rattle.file_walk.specs.declared.Cursor.{Cursor}
 use Rattle.file_walk.specs.declared.Line.{Line}
 use Rattle.file_walk.specs.Walk.{isMore, headAt, lineAt, lineItem, itemsAt, pastStep, leftItems}
-use Rattle.dayfile.specs.Check.{linesAt, storedFrom}
+use Rattle.file_check.specs.Check.{linesAt}
+use Rattle.dayfile.specs.Stored.{storedFrom}
 use Rattle.file_walk.proofs.WalkLaws.{items-step, line-held}
-use Rattle.dayfile.proofs.CheckLaws.{lines-append, lines-held}
+use Rattle.file_check.proofs.CheckLaws.{lines-append, lines-held}
 
 -- one head or line
 module _ (bs : List ℕ) (c : Cursor) where

@@ -3,7 +3,6 @@ ghost use mathlib.Core.Path.{_≡_};
 ghost use Rattle.rules.specs.DayFile.{isFile};
 ghost use Rattle.rules.specs.Calls.{wordsAfter, fileAnswer};
 ghost use Rattle.rules.specs.Calls as calls;
-ghost use Rattle.dayfile.specs.Check.{nonePosted};
 use file_walk::walk;
 use rules::FileRead;
 use rules::bounds::MOST_FILE_BYTES;
@@ -11,7 +10,6 @@ use rules::causes::BAD_FILE;
 use rules::causes::NOT_A_BOOK;
 use rules::layout::COUNT_WORD;
 
-mod check;
 mod post;
 
 // Whether the bytes are a day file: their length, kinds, spare and status bits, and where they end.
@@ -28,27 +26,18 @@ pub fn is_file(file: &[u8]) -> bool
     walk::shaped(file)
 }
 
-fn refused(cause: u32) -> FileRead
-    ensures { λ r. ⌜ r ≡ nonePosted cause ⌝ }
-{
-    FileRead {
-        answer: cause,
-        posted: 0,
-    }
-}
-
 // Posts the lines of a file into a book: all of them or none.
 pub fn read_file(book: &mut [u32], file: &[u8]) -> FileRead
     ensures answer { λ r. ⌜ r ≡ fileAnswer (now (book .entry)) (now (file .entry)) ⌝ }
     ensures words { λ r. ⌜ now (book .exit) ≡ wordsAfter (now (book .entry)) (calls.file (now (file .entry))) ⌝ }
 {
     if !book::is_book(book) {
-        return refused(NOT_A_BOOK);
+        return file_check::refused(NOT_A_BOOK);
     }
     if !is_file(file) {
-        return refused(BAD_FILE);
+        return file_check::refused(BAD_FILE);
     }
-    let found = check::answer_of(book, file);
+    let found = file_check::answer_of(book, file);
     if found.answer != 0 {
         return found;
     }

@@ -15,7 +15,7 @@ use Rattle.rules.specs.Control.{detectedIn}
 use Rattle.rules.proofs.WordLaws.{book-facts, within-true}
 use Rattle.cells.specs.Cells.{AtMost}
 use Rattle.cells.proofs.ScanLaws.{table-to}
-use Rattle.tally.specs.Bounded.{mostSum}
+use Rattle.balance_formulas.specs.Bounded.{mostSum}
 use Rattle.repeated_pairs.specs.Flags.{flagged, noFlags}
 use Rattle.detection.specs.Tables.{tableCells, tableOf, detectedAmong, checked, ofPass, Flaggable}
 use Rattle.detection.proofs.BelowLaws.{no-party}

@@ -22,7 +22,7 @@ use Rattle.rules.proofs.Limits.{legal-amount, volume-limit}
 use Rattle.rules.proofs.SumOrder.{forTests, toTests, counts-for, counts-to}
 use Rattle.cells.specs.Cells.{oneIf, addTo, addToEach, added, goesTo, inCell, apart, Limited, AtMost}
 use Rattle.cells.proofs.CellLaws.{same-test, to-first, to-later, to-either, to-none, goes-one, one-goes, length-filled, cell-sum}
-use Rattle.tally.specs.Bounded.{mostSum}
+use Rattle.balance_formulas.specs.Bounded.{mostSum}
 use Rattle.detection.specs.Tables.{lastType, isCoverType, isReadType, partyCells, tableCells, coverPlace, sideOf, cellOf, isRead, ownAmount, dayCells, tableOf, aheadAt}
 
 -- two tests alike, as a test

@@ -13,7 +13,7 @@ use Rattle.rules.specs.Words.{entries, coefficientOf, toleranceOf, mostCoeffici
 use Rattle.rules.specs.Balance.{isDetected}
 use Rattle.rules.specs.Control.{Parties, detectedIn, isRepeatedBuyer}
 use Rattle.cells.specs.Cells.{Cells, oneIf, filled, AtMost}
-use Rattle.tally.specs.Bounded.{mostSum}
+use Rattle.balance_formulas.specs.Bounded.{mostSum}
 use Rattle.repeated_pairs.specs.Flags.{flagged, noFlags}
 
 -- the largest number of a type

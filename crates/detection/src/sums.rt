@@ -9,7 +9,7 @@ ghost use Rattle.rules.specs.Entry.{key, legal, bilateral, lastParty, recordIn}
 ghost use Rattle.rules.specs.Words.{isBook, entries, mostCoefficient, mostTolerance};
 ghost use Rattle.rules.specs.Balance.{isDetected};
 ghost use Rattle.cells.specs.Cells.{addTo, added, blank, AtMost};
-ghost use Rattle.tally.specs.Bounded.{mostSum};
+ghost use Rattle.balance_formulas.specs.Bounded.{mostSum};
 ghost use Rattle.repeated_pairs.specs.Flags.{flagged, noFlags};
 ghost use Rattle.detection.specs.Tables.{isSaleType, isReadType, lastType, sideOf, isRead, ownAmount, tableCells, dayCells, tableOf, aheadAt, Flaggable, detectedAmong, checked};
 use repeated_pairs::parties::Flags;
@@ -19,7 +19,6 @@ use rules::layout::BILATERAL;
 use rules::layout::ENTRY_WORDS;
 use rules::layout::HEAD_WORDS;
 use rules::layout::STANDING;
-use tally::balances;
 
 // The cells of each number: S, C but for the next two, capacity tender and import notification.
 const PARTY_CELLS: usize = 4;
@@ -162,7 +161,7 @@ fn is_detected(table: &Table, party: usize, coefficient: u32, tolerance: u32) ->
         return false;
     }
     let cover = table[at + COVER] + numbers::larger(table[at + 2], table[at + 3]);
-    position::detected(balances::balanced(sales, cover, coefficient, tolerance))
+    position::detected(balance_formulas::balanced(sales, cover, coefficient, tolerance))
 }
 
 // Flags the detected ones among some parties.

@@ -10,12 +10,12 @@ use Rattle.numbers.specs.Tests.{every, any}
 use Rattle.rules.specs.Entry.{keyOf, recordOf}
 use Rattle.rules.specs.Words.{isBook, usedWords}
 use Rattle.rules.specs.Balance.{dayAhead, delivery, tallyAnswer}
-use Rattle.rules.specs.Collateral.{plainCase, collateralAnswer}
-use Rattle.rules.specs.CaseFigures.{withParty, withDay}
+use Rattle.rules.specs.Collateral.{collateralAnswer}
+use Rattle.case_figures.specs.CaseFigures.{plainCase, withParty, withDay}
 use Rattle.rules.specs.DayFile.{isFile}
 use Rattle.rules.specs.Machine.{figuresOf, leavesOf}
 use Rattle.rules.specs.Calls.{Change, post, withdraw, control, file, noFigures, causeOf}
-use Rattle.rules.specs.declared.Case.{Case}
+use Rattle.case_figures.specs.declared.Case.{Case}
 use Rattle.rules.proofs.Worked.{minus, isSigned, sameNumbers, bytes, computed}
 use Rattle.rules.proofs.WordFigures.{highBits, spareBits}
 use Rattle.former.specs.Former.{Copy, until06, until02, tallyOfBy, coverSideBy, formulaBy, balanceOn, limitBy, faultBy, legalBy, entryOkBy, entriesOkBy, isBookBy, isShapedBy, isFileBy, itemCauseBy, refusalBy, machineBy, askedBy, balanceBy, tallyBy, caseCauseBy, collateralBy, countCauseBy, countBy, readCauseBy, entryBy}

@@ -20,7 +20,7 @@ use Rattle.rules.specs.Control.{Parties, controlRefusal}
 use Rattle.rules.specs.DayFile.{Item, line, emptyBlock, highAmounts, mostBytes, wordsOf, isHead, linesIn, items, itemCause, linesOf}
 use Rattle.rules.specs.Machine.{Machine}
 use Rattle.rules.specs.Calls.{Change, post, withdraw, control, file, Figures, bookMachine}
-use Rattle.rules.specs.declared.Case.{Case}
+use Rattle.case_figures.specs.declared.Case.{Case}
 use Rattle.rules.specs.declared.Counted.{Counted}
 use Rattle.rules.specs.declared.EntryRead.{EntryRead}
 use Rattle.rules.specs.declared.Tally.{Tally}

@@ -18,7 +18,7 @@ use Rattle.rules.specs.Control.{detectedIn}
 use Rattle.rules.specs.DayFile.{Item, line, emptyBlock, isFile, items, itemCause}
 use Rattle.rules.specs.Machine.{figuresOf, leavesOf}
 use Rattle.rules.specs.Calls.{Change, post, withdraw, control, file, noFigures, causeOf, figuresAt, wordsAfter}
-use Rattle.rules.specs.declared.Case.{Case}
+use Rattle.case_figures.specs.declared.Case.{Case}
 use Rattle.rules.specs.declared.Tally.{Tally}
 use Rattle.rules.specs.declared.TallyAnswer.{TallyAnswer}
 use Rattle.former.specs.Former.{Copy, limitBy, isBookBy, isFileBy, machineBy, detectedBy, countBy, entryBy, tallyBy, balanceBy, collateralBy}

@@ -8,7 +8,7 @@ use Rattle.numbers.specs.Tests.{every}
 use Rattle.rules.specs.Refusals.{badLength}
 use Rattle.rules.specs.DayFile.{wordsOf}
 use Rattle.rules.specs.Month.{Tables, tablesOf, monthAnswer}
-use Rattle.rules.specs.Collateral.{noMonth}
+use Rattle.case_figures.specs.CaseFigures.{noMonth}
 use Rattle.rules.specs.declared.MonthAnswer.{MonthAnswer}
 use Rattle.word_bytes.specs.Bytes.{isWhole}
 

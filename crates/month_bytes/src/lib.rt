@@ -6,7 +6,7 @@ ghost use Rattle.rules.specs.Month.{monthAnswer};
 ghost use Rattle.month_step.specs.Ranges.{Placed};
 ghost use Rattle.month_bytes.specs.Tables.{tablesIn, refusedMonth, monthOnBytes};
 ghost use Rattle.month_bytes.specs.Parts.{wholeTables, bytesAgree, Hourly};
-use rules::Month;
+use case_figures::Month;
 use rules::MonthAnswer;
 use rules::bounds::MOST_HOURS;
 use rules::causes::BAD_FIGURE;

@@ -9,9 +9,9 @@ ghost use Rattle.month_bytes.specs.Tables.{figuresOf};
 use crate::figures::read_figures;
 use crate::figures::volumes_ok;
 use crate::without_figures;
+use case_figures::Month;
 use month_step::ranges;
 use month_step::sums::Sums;
-use rules::Month;
 use rules::MonthAnswer;
 use rules::causes::BAD_FIGURE;
 

@@ -9,7 +9,7 @@ use Rattle.rules.specs.Words.{entries}
 use Rattle.rules.specs.Calls.{file, causeOf, wordsAfter, fileAnswer}
 use Rattle.rules.specs.MonthReport.{monthReportCause, reportOf, refusedReport, monthReport}
 use Rattle.rules.specs.declared.FileRead.{FileRead}
-use Rattle.dayfile.proofs.AnswerLaws.{told-refused, told-done}
+use Rattle.file_check.proofs.AnswerLaws.{told-refused, told-done}
 use Rattle.text.specs.Text.{refusal}
 use Rattle.month_print.specs.MonthText.{reportText, monthInto, monthOn, mostText}
 use Rattle.month_print.proofs.LineLaws.{refusal-fits, report-most}

@@ -18,8 +18,8 @@ use Rattle.numbers.proofs.SumLaws.{sum-bound}
 use Rattle.numbers.proofs.CauseLaws.{else-none}
 use Rattle.rules.specs.Refusals.{badLength, badFigure}
 use Rattle.rules.specs.Month.{Tables, tablesOf, hours, mostHours, volumeOk, monthCause, weightedPrices, weights, aosmf, aedm, monthFigures, monthAnswer}
-use Rattle.rules.specs.Collateral.{noMonth}
-use Rattle.rules.specs.declared.Month.{Month}
+use Rattle.case_figures.specs.CaseFigures.{noMonth}
+use Rattle.case_figures.specs.declared.Month.{Month}
 use Rattle.rules.specs.declared.MonthAnswer.{MonthAnswer}
 use Rattle.month_step.specs.Ranges.{placesOk, priceOk, agree}
 

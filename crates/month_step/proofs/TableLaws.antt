@@ -11,7 +11,7 @@ use mir.ValLaws.{toZ-ofZ}
 use Rattle.numbers.specs.Rounding.{halfUp}
 use Rattle.numbers.proofs.SumLaws.{sum-step, sum-bound}
 use Rattle.rules.specs.Month.{Tables, tablesOf, hours, weightedPrices, weights, aosmf, aedm, monthFigures}
-use Rattle.rules.specs.declared.Month.{Month}
+use Rattle.case_figures.specs.declared.Month.{Month}
 use Rattle.rules.proofs.Limits.{MonthRanges, hour-limit}
 use Rattle.month_step.specs.Rows.{PricedRow, DmRow, firstWeighted, firstWeights, firstVolume, rowWeighted, rowWeights, rowVolume}
 use Rattle.month_step.proofs.RowLaws.{weighted-limit, weights-limit}

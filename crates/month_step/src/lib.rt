@@ -5,7 +5,7 @@ pub mod sums;
 
 ghost use mathlib.Core.Path.{_≡_};
 ghost use Rattle.rules.specs.Month.{tablesOf, monthAnswer};
-use rules::Month;
+use case_figures::Month;
 use rules::MonthAnswer;
 
 // 11, 12, or AOSMF over all rows and AEDM of the group asked.

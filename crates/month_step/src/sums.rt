@@ -5,7 +5,7 @@ ghost use Rattle.numbers.specs.Rounding.{halfUp};
 ghost use Rattle.rules.specs.Month.{tablesOf, monthCause, monthFigures};
 ghost use Rattle.month_step.specs.Rows.{PricedRow, DmRow, rowWeighted, rowWeights, rowVolume};
 use crate::sizes;
-use rules::Month;
+use case_figures::Month;
 
 // The two sums that AOSMF divides.
 pub struct Sums {

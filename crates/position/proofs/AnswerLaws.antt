@@ -14,7 +14,7 @@ use Rattle.rules.specs.Balance.{Volume, tallyOf, boughtBy, balance, balanceOf, 
 use Rattle.rules.specs.declared.TallyAnswer.{TallyAnswer}
 use Rattle.rules.specs.declared.BalanceAnswer.{BalanceAnswer}
 use Rattle.rules.proofs.WordLaws.{book-facts, within-true}
-use Rattle.tally.specs.Bounded.{Bounded}
+use Rattle.balance_formulas.specs.Bounded.{Bounded}
 use Rattle.tally.specs.Scan.{scanned, noneFor}
 use Rattle.tally.proofs.TallyLaws.{sums-to, bought-to}
 

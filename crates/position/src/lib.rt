@@ -1,7 +1,7 @@
 // The tally of a party's day, and both balances (01, 'The two balances').
 ghost use mathlib.Core.Path.{_≡_};
 ghost use mathlib.Core.Bool.{cond};
-ghost use Rattle.tally.specs.Bounded.{Bounded};
+ghost use Rattle.balance_formulas.specs.Bounded.{Bounded};
 ghost use Rattle.rules.specs.Balance.{tallyAnswer, balanceOf, balanceAnswer, isDetected, dayAhead, delivery};
 use rules::BalanceAnswer;
 use rules::Tally;
@@ -24,9 +24,9 @@ fn balance_of(ahead: bool, t: Tally, bought: u64, coefficient: u32, tolerance: u
     ensures { λ r. ⌜ r ≡ balanceOf (cond ahead dayAhead delivery) coefficient tolerance t bought ⌝ }
 {
     if ahead {
-        return tally::balances::day_ahead_of(t, bought, coefficient, tolerance);
+        return balance_formulas::day_ahead_of(t, bought, coefficient, tolerance);
     }
-    tally::balances::delivery_of(t, bought, coefficient, tolerance)
+    balance_formulas::delivery_of(t, bought, coefficient, tolerance)
 }
 
 // One pass over the book for either balance.

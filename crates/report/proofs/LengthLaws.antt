@@ -8,7 +8,7 @@ use lib.IntN.{ℤ}
 use lib.ListN.{length, length-append}
 use Rattle.rules.specs.DayFile.{wordsOf, items, fileNames}
 use Rattle.rules.specs.Calls.{file, causeOf, wordsAfter}
-use Rattle.dayfile.proofs.AnswerLaws.{file-bytes}
+use Rattle.file_check.proofs.AnswerLaws.{file-bytes}
 use Rattle.rules.proofs.CallLaws.{file-passes}
 use Rattle.text.specs.Text.{eachFrom, refusal}
 use Rattle.text.proofs.TextLaws.{decimal-below, signed-most, refusal-most}

@@ -11,7 +11,7 @@ use Rattle.rules.specs.DayFile.{fileNames}
 use Rattle.rules.specs.Calls.{file, wordsAfter, fileAnswer}
 use Rattle.rules.specs.declared.FileRead.{FileRead}
 use Rattle.rules.proofs.CallLaws.{done-stays}
-use Rattle.dayfile.proofs.AnswerLaws.{cause-told, told-refused, told-done}
+use Rattle.file_check.proofs.AnswerLaws.{cause-told, told-refused, told-done}
 use Rattle.file_names.specs.Names.{namesParty}
 use Rattle.file_names.proofs.NameLaws.{not-named}
 use Rattle.rules.specs.Words.{isBook, entries, coefficientOf, toleranceOf}

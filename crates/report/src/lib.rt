@@ -14,7 +14,6 @@ ghost use Rattle.report.specs.Report.{header, lineText, lineOf, partyLin
 use rules::bounds::DAYS;
 use rules::bounds::NUMBERS;
 use rules::layout::BOOK_WORDS;
-use tally::balances;
 
 pub mod input;
 
@@ -42,8 +41,8 @@ fn put_pair(book: &[u32], party: u32, day: u32, out: &mut [u8], at: usize) -> us
     let bought = read.bought;
     let coefficient = words::coefficient_of(book);
     let tolerance = words::tolerance_of(book);
-    let ahead = balances::day_ahead_of(t, bought, coefficient, tolerance);
-    let due = balances::delivery_of(t, bought, coefficient, tolerance);
+    let ahead = balance_formulas::day_ahead_of(t, bought, coefficient, tolerance);
+    let due = balance_formulas::delivery_of(t, bought, coefficient, tolerance);
     put_line(out, at, party, day, ahead, due)
 }
 

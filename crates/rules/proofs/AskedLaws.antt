@@ -13,8 +13,8 @@ use Rattle.numbers.proofs.TestLaws.{bool-cases, and-split}
 use Rattle.rules.specs.Entry.{partyOk, dayOk}
 use Rattle.rules.specs.Collateral.{monthOk, figuresOk}
 use Rattle.rules.specs.Compared.{IsParty, IsDay, AskedAnswer, askedDone, noParty, noDay, UsedInRange, IsCase, CaseAnswer, caseDone, notAsked, noFigure}
-use Rattle.rules.specs.declared.Month.{Month}
-use Rattle.rules.specs.declared.Case.{Case}
+use Rattle.case_figures.specs.declared.Month.{Month}
+use Rattle.case_figures.specs.declared.Case.{Case}
 use Rattle.rules.proofs.WordLaws.{within-true}
 use Rattle.rules.proofs.Limits.{case-ranges, month-limit}
 

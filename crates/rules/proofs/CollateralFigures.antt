@@ -9,11 +9,11 @@ use lib.IntN.{ℤ, pos, natAbs}
 use lib.ListN.{set}
 use Rattle.numbers.specs.Tests.{every}
 use Rattle.rules.specs.Entry.{Record, keyOf, recordOf}
-use Rattle.rules.specs.Collateral.{noMonth, plainCase, tradingDays, trading, collateralAnswer}
-use Rattle.rules.specs.CaseFigures.{withParty, withDay, withLicence, withCapacity, withNonbusiness, withHoliday, withDefaults, withResponsible, withMonths, withUsed, withRk, withRt, withYt, withScore, withBest}
+use Rattle.rules.specs.Collateral.{tradingDays, trading, collateralAnswer}
+use Rattle.case_figures.specs.CaseFigures.{noMonth, plainCase, withParty, withDay, withLicence, withCapacity, withNonbusiness, withHoliday, withDefaults, withResponsible, withMonths, withUsed, withRk, withRt, withYt, withScore, withBest}
 use Rattle.rules.specs.Ledger.{Call, post, withdraw}
-use Rattle.rules.specs.declared.Month.{Month}
-use Rattle.rules.specs.declared.Case.{Case}
+use Rattle.case_figures.specs.declared.Month.{Month}
+use Rattle.case_figures.specs.declared.Case.{Case}
 use Rattle.rules.specs.declared.Collateral.{Collateral}
 use Rattle.rules.proofs.Worked.{minus, book, on, tradingIs, sameNumbers, computed}
 

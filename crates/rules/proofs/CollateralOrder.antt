@@ -18,10 +18,10 @@ use Rattle.rules.specs.Entry.{Record}
 use Rattle.rules.specs.Balance.{sumOf}
 use Rattle.rules.specs.Month.{Tables, monthAnswer, monthFigures, weightedPrices, weights, aosmf, aedm}
 use Rattle.rules.specs.Collateral.{Money, isActive, debtOf, debts, moneyOf, tradingDays, debt, quarters, margin, trading, highestPrice, lowestVolume, imbalanceOver, imbalance, risk, yek, totalOf, collateralOf}
-use Rattle.rules.specs.CaseFigures.{withMonths}
+use Rattle.case_figures.specs.CaseFigures.{withMonths}
 use Rattle.rules.specs.Compared.{Each, Sum, IsMoney, LowerMoney, Cheaper, LowerCase}
-use Rattle.rules.specs.declared.Month.{Month}
-use Rattle.rules.specs.declared.Case.{Case}
+use Rattle.case_figures.specs.declared.Month.{Month}
+use Rattle.case_figures.specs.declared.Case.{Case}
 use Rattle.rules.proofs.EachLaws.{each-length, each-getD, each-take}
 use Rattle.rules.proofs.SumOrder.{sum-of-money}
 

@@ -188,7 +188,8 @@ pub secondPasses-hold : every secondPasses ≡ true
 unfolding computed joined secondPasses
 secondPasses-hold = refl
 
--- the answer counts every detected party, with a bilateral sale or without, and entries cancelled in both passes
+-- the answer counts every detected party, with a bilateral sale or without, and entries cancelled in both passes. Only this figure counts all
+-- 999 in the first pass: that takes seconds
 pub controlCounts : List Bool
 controlCounts =
     -- 1 and 999 in the first pass, 999 by a day-ahead sale; 999 in the second too: 203 is above twice 101, and above twice nothing

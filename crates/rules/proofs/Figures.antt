@@ -10,11 +10,12 @@ use Rattle.calendar.specs.Calendar.{dateOf}
 use Rattle.rules.specs.Entry.{keyOf}
 use Rattle.rules.specs.Balance.{dayAhead, delivery, balanceAnswer}
 use Rattle.rules.specs.Month.{monthAnswer}
-use Rattle.rules.specs.Collateral.{noMonth, collateralAnswer}
-use Rattle.rules.specs.CaseFigures.{withNonbusiness, withHoliday, withDefaults, withResponsible, withMonths, withUsed, withRk, withRt}
+use Rattle.rules.specs.Collateral.{collateralAnswer}
+use Rattle.case_figures.specs.CaseFigures.{noMonth, withNonbusiness, withHoliday, withDefaults, withResponsible, withMonths, withUsed, withRk, withRt}
 use Rattle.rules.specs.DayFile.{fileNames}
+use Rattle.rules.specs.Calls.{controlAnswer}
 use Rattle.rules.specs.Ledger.{post, withdraw}
-use Rattle.rules.proofs.Worked.{postCause, withdrawCause, controlCause, controlWords, minus, isSigned, isDate, book, defaultBook, own, on, sold, balanceIs, bothAre, acquiredIs, case, generator, marginIs, imbalanceIs, yekIs, tradingIs, tables, priceIs, recordableIs, nets, short, twoRows, wild, dear, totalIs, sample, emptyBlocks, fileIs, fileBalanceIs, controlIs, statusIs, chain, august, september, oneDay, computed}
+use Rattle.rules.proofs.Worked.{postCause, withdrawCause, controlCause, controlWords, minus, isSigned, isDate, book, defaultBook, own, on, sold, balanceIs, bothAre, acquiredIs, case, generator, marginIs, imbalanceIs, yekIs, tradingIs, tables, priceIs, recordableIs, nets, short, twoRows, wild, dear, totalIs, sample, emptyBlocks, fileIs, fileBalanceIs, statusIs, chain, august, september, oneDay, computed}
 
 -- where a line names no tolerance, R is 110 and TM 600,000, named at opening (02, T-12)
 pub starred : List Bool
@@ -118,7 +119,8 @@ furtherControls =
     -- control: a buyer's lost purchase is not counted inside the first pass; a repeated pair, and what a control of it counts; another month
     statusIs oneDay 0 2
     ∷ statusIs oneDay 1 0
-    ∷ controlIs august 9000 1 1 2
+    ∷ eqb (controlAnswer august 9000 .second) 1
+    ∷ eqb (controlAnswer august 9000 .cancelled) 2
     ∷ statusIs (controlWords august 9000) 3 2
     ∷ statusIs (controlWords september 9000) 3 0
     -- a closed day takes no bilateral sale and gives none back; an export goes on

@@ -25,8 +25,8 @@ use Rattle.rules.specs.Words.{mostEntries, mostCoefficient, mostToleranc
 use Rattle.rules.specs.Balance.{Volume, dayAhead, delivery, counted, countedTo, sumOf, boughtBy, tallyOf, saleTypes, coverTypes, programUsed, saleSide, coverSide, balanceOf, balance}
 use Rattle.rules.specs.Month.{Tables, monthCause, weightedPrices, weights, aosmf, aedm, hours, mostHours, mostRows, mostPrice, volumeOk, priceAt, imbalanceAt, dmAt}
 use Rattle.rules.specs.Collateral.{Money, debtOf, debts, moneyOf, tradingDays, debt, quarters, generation, generationMargin, margin, trading, usedMonths, highestPrice, lowestVolume, imbalanceOver, imbalance, risk, yek, totalOf, monthOk, figuresOk}
-use Rattle.rules.specs.declared.Month.{Month}
-use Rattle.rules.specs.declared.Case.{Case}
+use Rattle.case_figures.specs.declared.Month.{Month}
+use Rattle.case_figures.specs.declared.Case.{Case}
 use Rattle.rules.proofs.SumOrder.{picked, forTests, toTests, CountsFor, counts-for, counts-to, sale-sums, cover-sums, program-delivery, program-ahead}
 use Rattle.rules.proofs.WordLaws.{within-true, volume-range}
 

@@ -122,11 +122,10 @@ monthReportFigures =
     ∷ totalsAre (beside 8979 9009) (294 ∷ 295 ∷ 296 ∷ []) (1 ∷ 110 ∷ 1000 ∷ [])
     ∷ totalsAre (of 0 1 10 ∷ of 30 1 100 ∷ of 31 1 1000 ∷ []) (0 ∷ 1 ∷ []) (110 ∷ 1000 ∷ [])
     ∷ totalsAre (of 36493 1 1 ∷ of 36494 1 10 ∷ of 36524 1 100 ∷ []) (1198 ∷ 1199 ∷ []) (1 ∷ 110 ∷ [])
-    -- totals of all types, of several days
-    ∷ sameNumbers (totalLine (each types powers ++ nowhere) 295) powers
+    -- totals of several days
     ∷ sameNumbers (totalLine (atEnds 8979 9009 ++ atEnds 8980 9010) 295) (replicate 5 0 ++ (14 ∷ []) ++ replicate 13 0 ++ (10 ∷ 7 ∷ []))
-    -- whole reports: day 9,000 is line 21 of month 295, so 441 zeros stand before it and 9 lines, 189 figures, after it
-    ∷ reportOn (nowhere ++ each types powers) 295 8979 31 (replicate 441 0 ++ powers ++ replicate 189 0 ++ powers)
+    -- whole reports: day 9,000 is line 21 of month 295, so 441 zeros stand before it and 9 lines, 189 figures, after it; all types
+    ∷ reportOn (each types powers) 295 8979 31 (replicate 441 0 ++ powers ++ replicate 189 0 ++ powers)
     -- the first and the last line, 26 to 29 lines between them; past the totals 3, 2, 1 and no lines
     ∷ reportOn (atEnds 397 424) 13 397 28 (firstLine ++ replicate 546 0 ++ lastLine ++ bothLines ++ replicate 63 0)
     ∷ reportOn (atEnds 31 59) 1 31 29 (firstLine ++ replicate 567 0 ++ lastLine ++ bothLines ++ replicate 42 0)
@@ -196,7 +195,6 @@ monthTotalsFigures =
     ∷ sameNumbers (amountsOf (chosen (exportOf 14) sales)) (1000000 ∷ [])
     -- the total of each type: of type 6 the purchases, 357, and the exports, 42,000
     ∷ sameNumbers (totalsIn sales 13) (replicate 5 0 ++ (42357 ∷ []) ++ replicate 5 0 ++ (5 ∷ []) ++ replicate 8 0 ++ (6 ∷ []))
-    ∷ sameNumbers (totalsIn (nowhere ++ each types powers) 295) powers
     ∷ []
 
 pub monthTotalsFigures-hold : every monthTotalsFigures ≡ true

@@ -14,7 +14,7 @@ use Rattle.rules.specs.Book.{entryAt, countCause, countAnswer, readCause
 use Rattle.rules.specs.Balance.{Volume, partyDayCause, balanceAnswer, tallyAnswer}
 use Rattle.rules.specs.Collateral.{collateralCause, collateralAnswer}
 use Rattle.rules.specs.MonthReport.{monthReportCause, monthReport}
-use Rattle.rules.specs.declared.Case.{Case}
+use Rattle.case_figures.specs.declared.Case.{Case}
 use Rattle.rules.proofs.BookLaws.{entry-at}
 use Rattle.rules.proofs.LiftLaws.{SameView}
 use Rattle.rules.proofs.CallLaws.{entries-count}

@@ -17,7 +17,7 @@ use Rattle.rules.specs.Calls.{noFigures}
 use Rattle.rules.specs.Ledger.{Call, bookCalls, bookAfter, bookAnswers, ledger, ledgerAfter, ledgerAnswers}
 use Rattle.rules.specs.Compared.{Each, AlikeCalls}
 use Rattle.rules.specs.Order.{TwoBooks, AsLedger, bookOf, recordsOf, fresh}
-use Rattle.rules.specs.declared.Case.{Case}
+use Rattle.case_figures.specs.declared.Case.{Case}
 use Rattle.rules.specs.declared.BalanceAnswer.{BalanceAnswer}
 use Rattle.rules.specs.declared.Collateral.{Collateral}
 use Rattle.rules.proofs.WordLaws.{Fits, laid-book}

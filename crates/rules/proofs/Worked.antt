@@ -18,8 +18,8 @@ use Rattle.rules.specs.Words.{encode, decode, entryOk, entriesOk, readEn
 use Rattle.rules.specs.Book.{openCause, openWords, openDefaultWords, isClosed, shutTo, postRefusal, entryAt, withdrawRefusal, withdrawnAt}
 use Rattle.rules.specs.Balance.{Volume, dayAhead, delivery, counted, countedTo, sumOf, boughtBy, tallyOf, acquired, programUsed, saleSide, coverSide, balanceOf, balance, isDetected, partyDayCause, balanceAnswer, tallyAnswer}
 use Rattle.rules.specs.Month.{Tables, monthCause, weightedPrices, weights, aosmf, aedm, monthFigures, monthAnswer}
-use Rattle.rules.specs.Collateral.{noMonth, plainCase, generationMargin, margin, tradingDays, debtOf, debts, debt, quarters, trading, highestPrice, lowestVolume, imbalanceOver, imbalance, risk, yek, totalOf, monthOk, figuresOk, collateralCause, collateralOf, collateralAnswer}
-use Rattle.rules.specs.CaseFigures.{withParty, withDay, withLicence, withCapacity, withNonbusiness, withHoliday, withDefaults, withResponsible, withMonths, withUsed, withRk, withRt, withYt, withScore, withBest}
+use Rattle.rules.specs.Collateral.{generationMargin, margin, tradingDays, debtOf, debts, debt, quarters, trading, highestPrice, lowestVolume, imbalanceOver, imbalance, risk, yek, totalOf, monthOk, figuresOk, collateralCause, collateralOf, collateralAnswer}
+use Rattle.case_figures.specs.CaseFigures.{noMonth, plainCase, withParty, withDay, withLicence, withCapacity, withNonbusiness, withHoliday, withDefaults, withResponsible, withMonths, withUsed, withRk, withRt, withYt, withScore, withBest}
 use Rattle.rules.specs.Ceiling.{isRecordable, ceilingCause, ceilingAnswer}
 use Rattle.rules.specs.FirstDay.{firstDayCause, firstDayAnswer}
 use Rattle.rules.specs.MonthReport.{reported, daySum, monthTotal, dayLine, dayLines, totalLine, reportLines, monthReportCause, reportOf, refusedReport, monthReport}
@@ -30,9 +30,8 @@ use Rattle.rules.specs.Machine.{leavesOf, figuresOf, after, answers}
 use Rattle.rules.specs.Calls.{refusal, figuresOn, changed, causeOf, figuresAt, wordsAfter, controlAnswer, fileAnswer}
 use Rattle.rules.specs.Calls as calls
 use Rattle.rules.specs.Ledger.{Call, post, withdraw, bookAfter, bookAnswers}
-use Rattle.rules.specs.declared.Month.{Month}
-use Rattle.rules.specs.declared.Case.{Case}
-use Rattle.rules.specs.declared.Controlled.{Controlled}
+use Rattle.case_figures.specs.declared.Month.{Month}
+use Rattle.case_figures.specs.declared.Case.{Case}
 
 abbrev pub minus : ℕ → ℤ
 minus n = negℤ (pos n)
@@ -184,12 +183,6 @@ abbrev pub fileBalanceIs : List ℕ → List ℕ → ℕ → ℤ → Bool
 fileBalanceIs ws bs p z =
     isSigned (balanceAnswer dayAhead (fileWords ws bs) p 9000 .balance) z
     && isSigned (balanceAnswer delivery (fileWords ws bs) p 9000 .balance) z
-
--- a control of these words answers these counts
-abbrev pub controlIs : List ℕ → ℕ → ℕ → ℕ → ℕ → Bool
-controlIs ws d first second cancelled =
-    let r : Controlled = controlAnswer ws d in
-    every (eqb (r .answer) 0 ∷ eqb (r .first) first ∷ eqb (r .second) second ∷ eqb (r .cancelled) cancelled ∷ [])
 
 abbrev pub statusIs : List ℕ → ℕ → ℕ → Bool
 statusIs ws n s = eqb (entryAt ws n .label .status) s

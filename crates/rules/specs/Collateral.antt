@@ -3,8 +3,8 @@ use mathlib.Core.Bool.{Bool, cond, _&&_}
 use mathlib.Core.List.{List, [], _∷_}
 use Prim.Native.Nat.{ℕ, zero, suc, _+_, _-_, _*_, max}
 use lib.Dec.{eqb, leb, ltb}
-use lib.IntN.{ℤ, pos, natAbs}
-use lib.ListN.{take, replicate}
+use lib.IntN.{ℤ, natAbs}
+use lib.ListN.{take}
 use Rattle.numbers.specs.Tests.{every, all}
 use Rattle.numbers.specs.Causes.{unless, firstOf, ifDone}
 use Rattle.numbers.specs.Rounding.{roundUp}
@@ -14,27 +14,13 @@ use Rattle.rules.specs.Entry.{Record, within}
 use Rattle.rules.specs.Words.{entries}
 use Rattle.rules.specs.Balance.{sumOf, partyDayCause}
 use Rattle.rules.specs.Month.{mostPrice}
-use Rattle.rules.specs.declared.Month.{Month}
-use Rattle.rules.specs.declared.Case.{Case}
+use Rattle.case_figures.specs.declared.Month.{Month}
+use Rattle.case_figures.specs.declared.Case.{Case}
 use Rattle.rules.specs.declared.Collateral.{Collateral}
 
 -- licences
 abbrev pub generation : ℕ
 generation = 2
-
--- a plain supplier's case: all figures 0, M 1, k 3, own group
-abbrev pub noMonth : Month
-noMonth = record { aosmf = 0; aedm = pos 0 }
-
-abbrev pub plainCase : Case
-plainCase =
-    record {
-      asked = record { party = 0; day = 0 };
-      margin = record { licence = 0; capacity = 0 };
-      trading = record { nonbusiness = 0; holiday = 0; defaults = 0 };
-      group = record { responsible = 1; months = replicate 3 noMonth; used = 0; rk = 0; rt = 0 };
-      yek = record { yt = 0; score = 0; best = 1 };
-    }
 
 -- Margin
 unfoldable pub generationMargin : ℕ → ℕ

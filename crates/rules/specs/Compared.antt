@@ -6,10 +6,10 @@ use Prim.Native.Nat.{ℕ, zero, suc, _+_, _≤_}
 use lib.IntN.{natAbs}
 use Rattle.rules.specs.Entry.{Key, Record, key}
 use Rattle.rules.specs.Month.{Tables, tablesOf, monthAnswer}
-use Rattle.rules.specs.CaseFigures.{withMonths}
+use Rattle.case_figures.specs.CaseFigures.{withMonths}
 use Rattle.rules.specs.Ledger.{Call, post}
-use Rattle.rules.specs.declared.Month.{Month}
-use Rattle.rules.specs.declared.Case.{Case}
+use Rattle.case_figures.specs.declared.Month.{Month}
+use Rattle.case_figures.specs.declared.Case.{Case}
 
 -- two lists equally long, with P at each place
 module _ {A : Type 0} (P : A → A → Type 0) where

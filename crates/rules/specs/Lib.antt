@@ -6,7 +6,6 @@ pub mod Stores
 pub mod Balance
 pub mod Month
 pub mod Collateral
-pub mod CaseFigures
 pub mod Control
 pub mod DayFile
 pub mod Ceiling

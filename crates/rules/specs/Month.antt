@@ -12,7 +12,7 @@ use Rattle.numbers.specs.Rounding.{halfUp}
 use Rattle.numbers.specs.Signed.{sumℤ}
 use Rattle.rules.specs.Refusals.{badLength, badFigure}
 use Rattle.rules.specs.Entry.{within}
-use Rattle.rules.specs.declared.Month.{Month}
+use Rattle.case_figures.specs.declared.Month.{Month}
 use Rattle.rules.specs.declared.MonthAnswer.{MonthAnswer}
 
 abbrev pub mostHours : ℕ

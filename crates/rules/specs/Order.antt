@@ -13,7 +13,7 @@ use Rattle.rules.specs.Balance.{Volume, balance, balanceAnswer}
 use Rattle.rules.specs.Collateral.{collateralOf, collateralAnswer, refusedCollateral}
 use Rattle.rules.specs.Ledger.{Call, bookAfter, bookAnswers, ledgerAfter, ledgerAnswers}
 use Rattle.rules.specs.Compared.{Each, AlikeCalls, SameLabel, NoWorse, SameWhereNamed, LowerMoney, LowerCase, AskedAnswer, CaseAnswer}
-use Rattle.rules.specs.declared.Case.{Case}
+use Rattle.case_figures.specs.declared.Case.{Case}
 
 -- a fresh book: as opening left it; and the book that a list of calls leaves of it
 abbrev pub fresh : List ℕ → ℕ → ℕ → List ℕ

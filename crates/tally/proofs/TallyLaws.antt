@@ -26,7 +26,7 @@ use Rattle.words.proofs.BookCode.{IsRead, is-read, book-within, book-entry}
 use Rattle.cells.specs.Cells.{added, addTo, addToEach, over, blank, filled, Limited}
 use Rattle.cells.proofs.CellLaws.{same-test, goes-one, one-goes, one-apart, cell-tested, length-filled}
 use Rattle.cells.proofs.ScanLaws.{readTo, readAt, total-next, few-to, legal-to, legal-at, table-to, filled-next}
-use Rattle.tally.specs.Bounded.{mostSum, SumsWithin}
+use Rattle.balance_formulas.specs.Bounded.{mostSum, SumsWithin}
 use Rattle.tally.specs.Scan.{scanned, counts, ownCells}
 
 -- an entry that counts, as facts

@@ -19,8 +19,6 @@ use rules::layout::TYPES;
 use rules::layout::UPDATED_PROGRAM;
 use rules::layout::WITHDRAWN_WORD;
 
-pub mod balances;
-
 // The kind 3 word of a standing type 6 entry with counterparty 0: an export. Each counterparty adds TYPES.
 const EXPORT: u32 = FIGURES_WORD + BILATERAL;
 

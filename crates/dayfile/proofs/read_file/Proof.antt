@@ -4,7 +4,7 @@ use Prim.Native.Nat.{_+_, _*_, _≤_}
 use native.Mathlib.Omega.{arith}
 use Rattle.rules.specs.DayFile.{items}
 use Rattle.rules.specs.Calls.{fileAnswer}
-use Rattle.dayfile.specs.Check.{storedFrom}
+use Rattle.dayfile.specs.Stored.{storedFrom}
 use Rattle.words.proofs.BookCode.{book-long}
 use Rattle.entry_checks.proofs.Ladder.{passed, failed}
 use Rattle.dayfile.proofs.FileLaws.{not-a-book, not-a-file, left-as-was, done-within, done-legal, done-count, done-stores}

@@ -1,5 +1,6 @@
 -- `collateral::months::months_ok` meets its contract. Assumes nothing.
-use Rattle.rules.specs.Collateral.{monthOk, noMonth}
+use Rattle.rules.specs.Collateral.{monthOk}
+use Rattle.case_figures.specs.CaseFigures.{noMonth}
 use Rattle.collateral.proofs.UsedMonths.{three-used}
 use borrow.Author.Needs.{needs}
 use Rattle.collateral.proofs.months.months_ok.Statement.{statement}

@@ -9,7 +9,7 @@ use borrow.Author.Tests.{eq-eqb, ne-eqb}
 use Rattle.numbers.specs.Tests.{all}
 use Rattle.rules.specs.Entry.{keyIn, recordOf, legal, standing}
 use Rattle.rules.specs.DayFile.{linesOf}
-use Rattle.dayfile.specs.Check.{storedFrom}
+use Rattle.dayfile.specs.Stored.{storedFrom}
 use Rattle.file_walk.proofs.WalkLaws.{line-whole}
 use Rattle.dayfile.proofs.PostLaws.{no-line-stored, one-line-stored, one-line-legal}
 use borrow.Author.Needs.{needs}

@@ -8,9 +8,9 @@ use Rattle.numbers.specs.Tests.{all}
 use Rattle.rules.specs.Entry.{legal}
 use Rattle.rules.specs.DayFile.{items, linesOf}
 use Rattle.file_walk.specs.Walk.{isMore, leftItems}
-use Rattle.dayfile.specs.Check.{storedFrom}
+use Rattle.dayfile.specs.Stored.{storedFrom}
 use Rattle.file_walk.proofs.WalkLaws.{items-end, past-within, walk-less}
-use Rattle.dayfile.proofs.CheckLaws.{lines-step}
+use Rattle.file_check.proofs.CheckLaws.{lines-step}
 use Rattle.dayfile.proofs.PostLaws.{stored-step, legal-step}
 use borrow.Author.Needs.{needs}
 use Rattle.dayfile.proofs.post.store_lines.Statement.{statement}

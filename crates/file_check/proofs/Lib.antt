@@ -1,0 +1,3 @@
+-- Laws of checking a file; the folders hold the proof of a function each.
+pub mod CheckLaws
+pub mod AnswerLaws
