@@ -5,12 +5,12 @@
 use mathlib.Core.Bool.{Bool, true, false, not, _&&_}
 use mathlib.Core.List.{List, [], _∷_, _++_}
 use mathlib.Core.Path.{_≡_, refl}
-use Prim.Native.Nat.{ℕ, _+_, _*_}
+use Prim.Native.Nat.{ℕ, _+_, _*_, _%_}
 use lib.Dec.{eqb}
 use lib.ListN.{length, replicate, set}
 use Rattle.numbers.specs.Tests.{every}
 use Rattle.rules.specs.Entry.{keyOf, recordOf}
-use Rattle.rules.specs.Control.{detectedIn}
+use Rattle.rules.specs.Control.{detectedIn, detectedParties}
 use Rattle.rules.specs.Calls.{controlAnswer}
 use Rattle.rules.specs.declared.Controlled.{Controlled}
 use Rattle.rules.proofs.Worked.{postCause, withdrawCause, controlWords, sameNumbers, computed}
@@ -188,12 +188,13 @@ pub secondPasses-hold : every secondPasses ≡ true
 unfolding computed joined secondPasses
 secondPasses-hold = refl
 
--- the answer counts every detected party, with a bilateral sale or without, and entries cancelled in both passes. Only this figure counts all
--- 999 in the first pass: that takes seconds
+-- the answer counts every detected party, with a bilateral sale or without. One entry only: all 999 parties are gone through
 pub controlCounts : List Bool
 controlCounts =
-    -- 1 and 999 in the first pass, 999 by a day-ahead sale; 999 in the second too: 203 is above twice 101, and above twice nothing
-    countsAre (page (sale 1 5 999 101 ∷ entry 999 5 1 0 0 203 ∷ void 1 6 999 7 ∷ []) 5) 5 (0 ∷ 2 ∷ 1 ∷ 1 ∷ [])
+    -- 999, by a day-ahead sale; parties 1 and 999 of a test that holds of these two, and no party 1,000
+    countsAre (page (entry 999 5 1 0 0 101 ∷ []) 5) 5 (0 ∷ 1 ∷ 0 ∷ 0 ∷ [])
+    ∷ eqb (detectedParties (λ p. eqb (p % 998) 1)) 2
+    ∷ eqb (detectedParties (λ p. eqb p 1000)) 0
     ∷ []
 
 pub controlCounts-hold : every controlCounts ≡ true
