@@ -9,12 +9,15 @@ SOURCES := $(shell find crates -name '*.rt' -o -name '*.antt') crates.txt
 
 all: build/libfanzsoreb.a
 
-# `rt staticlib` proves every crate that the library rests on, one after the other; `rt check` does so two at a time
+# An archive exports the functions of its own crate alone: the library is that of the calls on bytes and that of the calls on
+# words. `rt staticlib` proves every crate that it rests on, one after the other; `rt check` does so two at a time.
 build/libfanzsoreb.a: $(SOURCES)
 	mkdir -p build
-	rt check $$(sed -n 's/^host: *//p' crates.txt)
+	rt check $$(sed -n 's/^host[a-z_]*: *//p' crates.txt)
 	rt staticlib host
-	cp target/staticlib/libhost.a $@
+	rt staticlib host_words
+	cd build && ar x ../target/staticlib/libhost.a && ar x ../target/staticlib/libhost_words.a
+	cd build && rm -f libfanzsoreb.a && ar rcs libfanzsoreb.a host.o host_words.o && rm host.o host_words.o
 
 define PKGCONFIG
 prefix=$(PREFIX)

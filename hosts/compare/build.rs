@@ -1,7 +1,7 @@
 //! Finds the engine's static library.
 //!
 //! FANZSOREB_LIB names its directory (a relative one is taken from this
-//! package's directory), FANZSOREB_NAME the library: `host` is libhost.a.
+//! package's directory), FANZSOREB_NAME the library: `fanzsoreb` is libfanzsoreb.a.
 //! Without a library the program still builds, but refuses to run.
 
 use std::env;
@@ -16,8 +16,8 @@ fn main() {
         return;
     }
     let asked = env::var("FANZSOREB_LIB").ok();
-    let directory = asked.clone().unwrap_or("../../target/staticlib".to_string());
-    let name = env::var("FANZSOREB_NAME").unwrap_or("host".to_string());
+    let directory = asked.clone().unwrap_or("../../build".to_string());
+    let name = env::var("FANZSOREB_NAME").unwrap_or("fanzsoreb".to_string());
     let package = PathBuf::from(env::var("CARGO_MANIFEST_DIR").expect("set by cargo"));
     let directory = package.join(directory);
     let archive = directory.join(format!("lib{name}.a"));

@@ -49,7 +49,7 @@ def parts(text):
 
 def of_source(crates):
     found = set()
-    for path in (crates / "host/src").glob("*.rt"):
+    for path in crates.glob("host*/src/*.rt"):
         for name, given, answer in re.findall(r'pub extern "C" fn (\w+)\(([^)]*)\) -> (\w+)', path.read_text()):
             found.add(c_type(answer) + " " + name + "(" + (", ".join(map(c_parameter, parts(given))) or "void") + ")")
     types = "".join((crates / name / "src/lib.rt").read_text() for name in ("case_figures", "rules"))

@@ -1,10 +1,10 @@
--- `host::in_words::fanzsoreb_is_book_words` meets its contract. Assumes nothing.
+-- `host_words::fanzsoreb_is_book_words` meets its contract. Assumes nothing.
 use mathlib.Core.Path.{_∙_, ap}
 use borrow.Author.Needs.{needs}
 use Rattle.word_bytes.specs.Bytes.{yesNo}
 use Rattle.word_bytes.proofs.CodingLaws.{yes-byte}
-use Rattle.host.proofs.in_words.fanzsoreb_is_book_words.Statement.{statement}
-use Rattle.host.proofs.in_words.fanzsoreb_is_book_words.Tie as tie
+use Rattle.host_words.proofs.fanzsoreb_is_book_words.Statement.{statement}
+use Rattle.host_words.proofs.fanzsoreb_is_book_words.Tie as tie
 
 is-book-requires : tie.Need-is-book-requires
 is-book-requires c κs = search needs

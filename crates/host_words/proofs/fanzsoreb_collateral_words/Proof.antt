@@ -1,11 +1,11 @@
--- `host::in_words::fanzsoreb_collateral_words` meets its contract. Assumes nothing.
+-- `host_words::fanzsoreb_collateral_words` meets its contract. Assumes nothing.
 use mathlib.Core.Path.{_∙_, ap}
 use borrow.Author.Needs.{needs}
 use mir.Syntax.{w64}
 use mir.ValLaws.{toZ-ofZ}
 use Rattle.rules.specs.Collateral.{collateralAnswer}
-use Rattle.host.proofs.in_words.fanzsoreb_collateral_words.Statement.{statement}
-use Rattle.host.proofs.in_words.fanzsoreb_collateral_words.Tie as tie
+use Rattle.host_words.proofs.fanzsoreb_collateral_words.Statement.{statement}
+use Rattle.host_words.proofs.fanzsoreb_collateral_words.Tie as tie
 
 case-of-requires : tie.Need-case-of-requires
 case-of-requires c κs = search needs

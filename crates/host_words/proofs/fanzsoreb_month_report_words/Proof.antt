@@ -1,7 +1,7 @@
--- `host::in_words::fanzsoreb_month_report_words` meets its contract. Assumes nothing.
+-- `host_words::fanzsoreb_month_report_words` meets its contract. Assumes nothing.
 use borrow.Author.Needs.{needs}
-use Rattle.host.proofs.in_words.fanzsoreb_month_report_words.Statement.{statement}
-use Rattle.host.proofs.in_words.fanzsoreb_month_report_words.Tie as tie
+use Rattle.host_words.proofs.fanzsoreb_month_report_words.Statement.{statement}
+use Rattle.host_words.proofs.fanzsoreb_month_report_words.Tie as tie
 
 month-report-requires : tie.Need-month-report-requires
 month-report-requires c κs = search needs

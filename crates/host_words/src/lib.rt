@@ -1,4 +1,4 @@
-// Every call on a book and the month step on lent words, in place: a host owes 4-byte alignment.
+// The calls for hosts in C on words: every call on a book and the month step, in place. A host owes 4-byte alignment.
 ghost use mathlib.Core.Path.{_≡_};
 ghost use lib.ListN.{length};
 ghost use Rattle.rules.specs.Entry.{keyOf};
