@@ -191,8 +191,11 @@ secondPasses-hold = refl
 -- the answer counts every detected party, with a bilateral sale or without. One entry only: all 999 parties are gone through
 pub controlCounts : List Bool
 controlCounts =
-    -- 999, by a day-ahead sale; parties 1 and 999 of a test that holds of these two, and no party 1,000
+    -- 999, by a day-ahead sale
     countsAre (page (entry 999 5 1 0 0 101 ∷ []) 5) 5 (0 ∷ 1 ∷ 0 ∷ 0 ∷ [])
+    -- 999 in the second pass, though in the first too: 203 is above twice 101, and above twice nothing
+    ∷ eqb (controlAnswer (page (sale 1 5 999 101 ∷ entry 999 5 1 0 0 203 ∷ void 1 6 999 7 ∷ []) 5) 5 .second) 1
+    -- parties 1 and 999 of a test that holds of these two, and no party 1,000
     ∷ eqb (detectedParties (λ p. eqb (p % 998) 1)) 2
     ∷ eqb (detectedParties (λ p. eqb p 1000)) 0
     ∷ []
