@@ -15,11 +15,11 @@ use borrow.Author.Tests.{ltb-true, ltb-false}
 use Rattle.numbers.specs.Sums.{total}
 use Rattle.numbers.proofs.TestLaws.{bool_cases}
 use Rattle.numbers.proofs.SignedLaws.{sub-above, sub-below}
-use Rattle.rules.specs.Words.{mostCoefficient}
-use Rattle.rules.specs.Balance.{Volume, dayAhead, delivery, acquired, programUsed, saleSide, coverSide, balanceOf}
+use Rattle.rules.specs.Words.{most_coefficient}
+use Rattle.rules.specs.Balance.{Volume, day_ahead, delivery, acquired, program_used, sale_side, cover_side, balance_of}
 use Rattle.rules.specs.declared.Tally.{Tally}
-use Rattle.balance_formulas.specs.Bounded.{mostSum, SumsWithin}
-use Rattle.balance_formulas.specs.Sides.{coverWith}
+use Rattle.balance_formulas.specs.Bounded.{most_sum, SumsWithin}
+use Rattle.balance_formulas.specs.Sides.{cover_with}
 
 minus : (a b : ℕ) → pos a -ℤ pos b ≡ sub_ℕ a b
 minus a zero = rw (sub-above a 0 (omega arith), add-zero a, sub-zero a)
@@ -42,28 +42,28 @@ pub less-larger : (x a b : ℕ) {m : ℕ} {z : ℤ} → m ≡ max a b → z ≡ 
 less-larger x a b e q = rw e at q
 
 -- either side times R
-pub products : {s c R : ℕ} → s ≤ 6 * mostSum → c ≤ 10 * mostSum → R ≤ mostCoefficient → (s * R ≤ 18432000000000000) × (c * R ≤ 30720000000000000)
+pub products : {s c R : ℕ} → s ≤ 6 * most_sum → c ≤ 10 * most_sum → R ≤ most_coefficient → (s * R ≤ 18432000000000000) × (c * R ≤ 30720000000000000)
 products hs hc hr = (mul-le-mul hs hr, mul-le-mul hc hr)
 
 -- the seventeen sums, each by its number
 pub record EachSum (s : List ℕ) : Type 0 where
-  pub sum-1 : get_or s 0 0 ≤ mostSum
-  pub sum-2 : get_or s 1 0 ≤ mostSum
-  pub sum-3 : get_or s 2 0 ≤ mostSum
-  pub sum-4 : get_or s 3 0 ≤ mostSum
-  pub sum-5 : get_or s 4 0 ≤ mostSum
-  pub sum-6 : get_or s 5 0 ≤ mostSum
-  pub sum-7 : get_or s 6 0 ≤ mostSum
-  pub sum-8 : get_or s 7 0 ≤ mostSum
-  pub sum-9 : get_or s 8 0 ≤ mostSum
-  pub sum-10 : get_or s 9 0 ≤ mostSum
-  pub sum-11 : get_or s 10 0 ≤ mostSum
-  pub sum-12 : get_or s 11 0 ≤ mostSum
-  pub sum-13 : get_or s 12 0 ≤ mostSum
-  pub sum-14 : get_or s 13 0 ≤ mostSum
-  pub sum-15 : get_or s 14 0 ≤ mostSum
-  pub sum-16 : get_or s 15 0 ≤ mostSum
-  pub sum-22 : get_or s 16 0 ≤ mostSum
+  pub sum-1 : get_or s 0 0 ≤ most_sum
+  pub sum-2 : get_or s 1 0 ≤ most_sum
+  pub sum-3 : get_or s 2 0 ≤ most_sum
+  pub sum-4 : get_or s 3 0 ≤ most_sum
+  pub sum-5 : get_or s 4 0 ≤ most_sum
+  pub sum-6 : get_or s 5 0 ≤ most_sum
+  pub sum-7 : get_or s 6 0 ≤ most_sum
+  pub sum-8 : get_or s 7 0 ≤ most_sum
+  pub sum-9 : get_or s 8 0 ≤ most_sum
+  pub sum-10 : get_or s 9 0 ≤ most_sum
+  pub sum-11 : get_or s 10 0 ≤ most_sum
+  pub sum-12 : get_or s 11 0 ≤ most_sum
+  pub sum-13 : get_or s 12 0 ≤ most_sum
+  pub sum-14 : get_or s 13 0 ≤ most_sum
+  pub sum-15 : get_or s 14 0 ≤ most_sum
+  pub sum-16 : get_or s 15 0 ≤ most_sum
+  pub sum-22 : get_or s 16 0 ≤ most_sum
 
 pub each-sum : (t : Tally) → SumsWithin t.sums → EachSum t.sums
 each-sum t h =
@@ -87,30 +87,30 @@ each-sum t h =
       sum-22 = h 16 (omega arith);
     }
 
-pub sale-within : (t : Tally) → EachSum t.sums → saleSide dayAhead t ≤ 4 * mostSum
-unfolding saleSide total
+pub sale-within : (t : Tally) → EachSum t.sums → sale_side day_ahead t ≤ 4 * most_sum
+unfolding sale_side total
 sale-within t e = omega arith
 
-pub cover-within : (t : Tally) {program B c : ℕ} → c ≡ coverWith t program B → EachSum t.sums → program ≤ mostSum → B ≤ mostSum → c ≤ 8 * mostSum
-unfolding coverWith acquired total
+pub cover-within : (t : Tally) {program B c : ℕ} → c ≡ cover_with t program B → EachSum t.sums → program ≤ most_sum → B ≤ most_sum → c ≤ 8 * most_sum
+unfolding cover_with acquired total
 cover-within t q e p b = omega arith
 
 -- delivery is the day-ahead and the intraday sums
-pub sale-delivery : (t : Tally) → saleSide delivery t ≡ saleSide dayAhead t + get_or t.sums 1 0 + get_or t.sums 4 0
-unfolding saleSide total
+pub sale-delivery : (t : Tally) → sale_side delivery t ≡ sale_side day_ahead t + get_or t.sums 1 0 + get_or t.sums 4 0
+unfolding sale_side total
 sale-delivery t = omega arith
 
 -- the day-ahead keeps the program of sum 12, delivery takes the larger of sums 12 and 22
-pub cover-ahead : (t : Tally) (B : ℕ) → coverSide dayAhead t B ≡ coverWith t (get_or t.sums 11 0) B
-unfolding coverSide programUsed coverWith
+pub cover-ahead : (t : Tally) (B : ℕ) → cover_side day_ahead t B ≡ cover_with t (get_or t.sums 11 0) B
+unfolding cover_side program_used cover_with
 cover-ahead t B = refl
 
-pub cover-delivery : (t : Tally) (B : ℕ) → coverSide delivery t B ≡ coverWith t (max (get_or t.sums 11 0) (get_or t.sums 16 0)) B + get_or t.sums 7 0 + get_or t.sums 10 0
-unfolding coverSide programUsed coverWith total
+pub cover-delivery : (t : Tally) (B : ℕ) → cover_side delivery t B ≡ cover_with t (max (get_or t.sums 11 0) (get_or t.sums 16 0)) B + get_or t.sums 7 0 + get_or t.sums 10 0
+unfolding cover_side program_used cover_with total
 cover-delivery t B = omega arith
 
 -- the balance of the two sides
-pub balance-is : (v : Volume) (R TM : ℕ) (t : Tally) (B : ℕ) {s k : ℕ} {z : ℤ} → s ≡ saleSide v t → k ≡ coverSide v t B →
-    z ≡ sub_ℕ (100 * s) (max (100 * TM) (k * R)) → z ≡ balanceOf v R TM t B
-unfolding balanceOf
+pub balance-is : (v : Volume) (R TM : ℕ) (t : Tally) (B : ℕ) {s k : ℕ} {z : ℤ} → s ≡ sale_side v t → k ≡ cover_side v t B →
+    z ≡ sub_ℕ (100 * s) (max (100 * TM) (k * R)) → z ≡ balance_of v R TM t B
+unfolding balance_of
 balance-is v R TM t B e f q = rw (e, f) at q

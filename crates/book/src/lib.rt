@@ -1,10 +1,10 @@
 // The book in lent words: is it a book, post, withdraw, the number of entries and one entry (document 01, 'The words', 'Entry types').
 ghost use Rattle.std.specs.Prelude.{◌≡◌};
-ghost use Rattle.rules.specs.Entry.{keyIn, recordIn};
-ghost use Rattle.rules.specs.Words.{isBook};
-ghost use Rattle.rules.specs.Book.{countAnswer, noRead, read_of, readAnswer};
-ghost use Rattle.rules.specs.Balance.{partyDayCause};
-ghost use Rattle.rules.specs.Calls.{causeOf, wordsAfter, postAnswer};
+ghost use Rattle.rules.specs.Entry.{key_in, record_in};
+ghost use Rattle.rules.specs.Words.{is_book};
+ghost use Rattle.rules.specs.Book.{count_answer, no_read, read_of, read_answer};
+ghost use Rattle.rules.specs.Balance.{party_day_cause};
+ghost use Rattle.rules.specs.Calls.{cause_of, words_after, post_answer};
 ghost use Rattle.rules.specs.Calls as calls;
 
 use rules::bounds::{MOST_COEFFICIENT, MOST_TOLERANCE};
@@ -14,7 +14,7 @@ use rules::{Counted, Entry, EntryRead, Key, Posted};
 
 // Whether the words are a book.
 pub fn is_book(book: &[u32]) -> bool
-    ensures { result ≡ isBook book.now }
+    ensures { result ≡ is_book book.now }
 {
     if book.len() < 3 {
         return false;
@@ -33,7 +33,7 @@ pub fn is_book(book: &[u32]) -> bool
 }
 
 fn post_cause(book: &[u32], key: Key, amount: u64) -> u32
-    ensures { result ≡ causeOf book.now (calls.post (keyIn key) amount) }
+    ensures { result ≡ cause_of book.now (calls.post (key_in key) amount) }
 {
     if !is_book(book) {
         return NOT_A_BOOK;
@@ -54,8 +54,8 @@ fn post_cause(book: &[u32], key: Key, amount: u64) -> u32
 
 // Appends one standing entry and answers its number, counted from 0.
 pub fn post(book: &mut [u32], key: Key, amount: u64) -> Posted
-    ensures answer { result ≡ postAnswer book.old (keyIn key) amount }
-    ensures words { book.new ≡ wordsAfter book.old (calls.post (keyIn key) amount) }
+    ensures answer { result ≡ post_answer book.old (key_in key) amount }
+    ensures words { book.new ≡ words_after book.old (calls.post (key_in key) amount) }
 {
     let cause = post_cause(book, key, amount);
     if cause != 0 {
@@ -70,7 +70,7 @@ pub fn post(book: &mut [u32], key: Key, amount: u64) -> Posted
 }
 
 fn withdraw_cause(book: &[u32], number: u32) -> u32
-    ensures { result ≡ causeOf book.now (calls.withdraw number) }
+    ensures { result ≡ cause_of book.now (calls.withdraw number) }
 {
     if !is_book(book) {
         return NOT_A_BOOK;
@@ -83,8 +83,8 @@ fn withdraw_cause(book: &[u32], number: u32) -> u32
 
 // Gives the entry of this number status 1. Its place is not used again.
 pub fn withdraw(book: &mut [u32], number: u32) -> u32
-    ensures answer { result ≡ causeOf book.old (calls.withdraw number) }
-    ensures words { book.new ≡ wordsAfter book.old (calls.withdraw number) }
+    ensures answer { result ≡ cause_of book.old (calls.withdraw number) }
+    ensures words { book.new ≡ words_after book.old (calls.withdraw number) }
 {
     let cause = withdraw_cause(book, number);
     if cause != 0 {
@@ -96,7 +96,7 @@ pub fn withdraw(book: &mut [u32], number: u32) -> u32
 
 // Why a party's day cannot be asked of a book: the lowest cause of 1, 3 and 4 that holds, or 0.
 pub fn party_day_cause(book: &[u32], party: u32, day: u32) -> u32
-    ensures { result ≡ partyDayCause book.now party day }
+    ensures { result ≡ party_day_cause book.now party day }
 {
     if !is_book(book) {
         return NOT_A_BOOK;
@@ -112,7 +112,7 @@ pub fn party_day_cause(book: &[u32], party: u32, day: u32) -> u32
 
 // The number of entries, of every status.
 pub fn count(book: &[u32]) -> Counted
-    ensures { result ≡ countAnswer book.now }
+    ensures { result ≡ count_answer book.now }
 {
     if !is_book(book) {
         return Counted {
@@ -128,7 +128,7 @@ pub fn count(book: &[u32]) -> Counted
 
 // The entry of a refusal: each figure is zero.
 pub fn no_read(cause: u32) -> EntryRead
-    ensures { result ≡ noRead cause }
+    ensures { result ≡ no_read cause }
 {
     EntryRead {
         answer: cause,
@@ -142,7 +142,7 @@ pub fn no_read(cause: u32) -> EntryRead
 }
 
 fn read_of(e: Entry) -> EntryRead
-    ensures { result ≡ read_of (recordIn e) }
+    ensures { result ≡ read_of (record_in e) }
 {
     EntryRead {
         answer: 0,
@@ -157,7 +157,7 @@ fn read_of(e: Entry) -> EntryRead
 
 // One entry by its number.
 pub fn entry(book: &[u32], number: u32) -> EntryRead
-    ensures { result ≡ readAnswer book.now number }
+    ensures { result ≡ read_answer book.now number }
 {
     if !is_book(book) {
         return no_read(NOT_A_BOOK);

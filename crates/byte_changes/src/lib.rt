@@ -1,11 +1,11 @@
 // Internal: a post, a withdrawal or a control on a book in lent bytes. The caller of each function with a `requires` meets it.
 ghost use Rattle.std.specs.Prelude.{◌≡◌, ◌≤◌, length};
-ghost use Rattle.rules.specs.Words.{bookWords};
-ghost use Rattle.rules.specs.Calls.{wordsAfter};
+ghost use Rattle.rules.specs.Words.{book_words};
+ghost use Rattle.rules.specs.Calls.{words_after};
 ghost use Rattle.word_bytes.specs.Bytes.{with_words};
-ghost use Rattle.word_bytes.specs.Coding.{neededFor};
-ghost use Rattle.word_bytes.specs.Sizes.{wideWords};
-ghost use Rattle.byte_changes.specs.Requests.{changeOf, doneIn, doneOn};
+ghost use Rattle.word_bytes.specs.Coding.{needed_for};
+ghost use Rattle.word_bytes.specs.Sizes.{wide_words};
+ghost use Rattle.byte_changes.specs.Requests.{change_of, done_in, done_on};
 
 use rules::Key;
 use rules::layout::BOOK_WORDS;
@@ -30,8 +30,8 @@ pub struct Done {
 }
 
 fn posted(book: &mut [u32], key: Key, amount: u64) -> Done
-    ensures answer { result ≡ doneIn book.old (changeOf (Request.Post key amount)) }
-    ensures words { book.new ≡ wordsAfter book.old (changeOf (Request.Post key amount)) }
+    ensures answer { result ≡ done_in book.old (change_of (Request.Post key amount)) }
+    ensures words { book.new ≡ words_after book.old (change_of (Request.Post key amount)) }
 {
     let r = book::post(book, key, amount);
     Done {
@@ -44,8 +44,8 @@ fn posted(book: &mut [u32], key: Key, amount: u64) -> Done
 }
 
 fn withdrawn(book: &mut [u32], number: u32) -> Done
-    ensures answer { result ≡ doneIn book.old (changeOf (Request.Withdraw number)) }
-    ensures words { book.new ≡ wordsAfter book.old (changeOf (Request.Withdraw number)) }
+    ensures answer { result ≡ done_in book.old (change_of (Request.Withdraw number)) }
+    ensures words { book.new ≡ words_after book.old (change_of (Request.Withdraw number)) }
 {
     let answer = book::withdraw(book, number);
     Done {
@@ -58,8 +58,8 @@ fn withdrawn(book: &mut [u32], number: u32) -> Done
 }
 
 fn controlled(book: &mut [u32], day: u32) -> Done
-    ensures answer { result ≡ doneIn book.old (changeOf (Request.Control day)) }
-    ensures words { book.new ≡ wordsAfter book.old (changeOf (Request.Control day)) }
+    ensures answer { result ≡ done_in book.old (change_of (Request.Control day)) }
+    ensures words { book.new ≡ words_after book.old (change_of (Request.Control day)) }
 {
     let r = control::control(book, day);
     Done {
@@ -73,8 +73,8 @@ fn controlled(book: &mut [u32], day: u32) -> Done
 
 // The request on a book's words.
 fn act(book: &mut [u32], request: Request) -> Done
-    ensures answer { result ≡ doneIn book.old (changeOf request) }
-    ensures words { book.new ≡ wordsAfter book.old (changeOf request) }
+    ensures answer { result ≡ done_in book.old (change_of request) }
+    ensures words { book.new ≡ words_after book.old (change_of request) }
 {
     match request {
         Request::Post(key, amount) => posted(book, key, amount),
@@ -85,9 +85,9 @@ fn act(book: &mut [u32], request: Request) -> Done
 
 // The same in words that have place for those of the entries and of one more.
 fn change_on(words: &mut [u32], book: &mut [u8], request: Request) -> Done
-    requires { neededFor 1 book.old ≤ length words.old }
-    ensures answer { result ≡ doneOn book.old (changeOf request) }
-    ensures bytes { book.new ≡ with_words book.old (λ ws. wordsAfter ws (changeOf request)) }
+    requires { needed_for 1 book.old ≤ length words.old }
+    ensures answer { result ≡ done_on book.old (change_of request) }
+    ensures bytes { book.new ≡ with_words book.old (λ ws. words_after ws (change_of request)) }
 {
     let n = word_bytes::decode(book, 1, words);
     let done = act(&mut words[..n], request);
@@ -96,18 +96,18 @@ fn change_on(words: &mut [u32], book: &mut [u8], request: Request) -> Done
 }
 
 fn change_wide(book: &mut [u8], request: Request) -> Done
-    requires { neededFor 1 book.old ≤ wideWords }
-    ensures answer { result ≡ doneOn book.old (changeOf request) }
-    ensures bytes { book.new ≡ with_words book.old (λ ws. wordsAfter ws (changeOf request)) }
+    requires { needed_for 1 book.old ≤ wide_words }
+    ensures answer { result ≡ done_on book.old (change_of request) }
+    ensures bytes { book.new ≡ with_words book.old (λ ws. words_after ws (change_of request)) }
 {
     let mut words = [0u32; WIDE_WORDS];
     change_on(&mut words, book, request)
 }
 
 fn change_large(book: &mut [u8], request: Request) -> Done
-    requires { neededFor 1 book.old ≤ bookWords }
-    ensures answer { result ≡ doneOn book.old (changeOf request) }
-    ensures bytes { book.new ≡ with_words book.old (λ ws. wordsAfter ws (changeOf request)) }
+    requires { needed_for 1 book.old ≤ book_words }
+    ensures answer { result ≡ done_on book.old (change_of request) }
+    ensures bytes { book.new ≡ with_words book.old (λ ws. words_after ws (change_of request)) }
 {
     let mut words = [0u32; BOOK_WORDS];
     change_on(&mut words, book, request)
@@ -115,8 +115,8 @@ fn change_large(book: &mut [u8], request: Request) -> Done
 
 // In the words lent where they suffice, else in a larger array (see `word_bytes::sizes`).
 fn change_in(words: &mut [u32], book: &mut [u8], request: Request) -> Done
-    ensures answer { result ≡ doneOn book.old (changeOf request) }
-    ensures bytes { book.new ≡ with_words book.old (λ ws. wordsAfter ws (changeOf request)) }
+    ensures answer { result ≡ done_on book.old (change_of request) }
+    ensures bytes { book.new ≡ with_words book.old (λ ws. words_after ws (change_of request)) }
 {
     let n = word_bytes::needed(book, 1);
     if n <= words.len() {
@@ -133,8 +133,8 @@ fn change_in(words: &mut [u32], book: &mut [u8], request: Request) -> Done
 }
 
 pub fn change(book: &mut [u8], request: Request) -> Done
-    ensures answer { result ≡ doneOn book.old (changeOf request) }
-    ensures bytes { book.new ≡ with_words book.old (λ ws. wordsAfter ws (changeOf request)) }
+    ensures answer { result ≡ done_on book.old (change_of request) }
+    ensures bytes { book.new ≡ with_words book.old (λ ws. words_after ws (change_of request)) }
 {
     let mut words = [0u32; SMALL_WORDS];
     change_in(&mut words, book, request)

@@ -1,12 +1,12 @@
 // Internal: a day file read into a book in lent bytes. The caller of each function with a `requires` meets it.
 ghost use Rattle.std.specs.Prelude.{◌≡◌, ◌≤◌, ◌/◌, length};
-ghost use Rattle.rules.specs.Words.{bookWords};
-ghost use Rattle.rules.specs.Refusals.{notABook};
-ghost use Rattle.rules.specs.Calls.{wordsAfter, fileAnswer};
+ghost use Rattle.rules.specs.Words.{book_words};
+ghost use Rattle.rules.specs.Refusals.{not_a_book};
+ghost use Rattle.rules.specs.Calls.{words_after, file_answer};
 ghost use Rattle.rules.specs.Calls as calls;
-ghost use Rattle.word_bytes.specs.Bytes.{onWords, with_words};
-ghost use Rattle.word_bytes.specs.Coding.{neededFor};
-ghost use Rattle.word_bytes.specs.Sizes.{wideWords};
+ghost use Rattle.word_bytes.specs.Bytes.{on_words, with_words};
+ghost use Rattle.word_bytes.specs.Coding.{needed_for};
+ghost use Rattle.word_bytes.specs.Sizes.{wide_words};
 
 use rules::FileRead;
 use rules::layout::BOOK_WORDS;
@@ -17,9 +17,9 @@ const LINE_BYTES: usize = 12;
 
 // In words that have place for those of the entries and of the lines.
 fn read_on(words: &mut [u32], book: &mut [u8], file: &[u8]) -> FileRead
-    requires { neededFor (length file.now / 12) book.old ≤ length words.old }
-    ensures answer { result ≡ onWords book.old (λ ws. fileAnswer ws file.now) (record { answer = notABook; posted = 0 }) }
-    ensures bytes { book.new ≡ with_words book.old (λ ws. wordsAfter ws (calls.file file.now)) }
+    requires { needed_for (length file.now / 12) book.old ≤ length words.old }
+    ensures answer { result ≡ on_words book.old (λ ws. file_answer ws file.now) (record { answer = not_a_book; posted = 0 }) }
+    ensures bytes { book.new ≡ with_words book.old (λ ws. words_after ws (calls.file file.now)) }
 {
     let n = word_bytes::decode(book, file.len() / LINE_BYTES, words);
     let read = dayfile::read_file(&mut words[..n], file);
@@ -28,18 +28,18 @@ fn read_on(words: &mut [u32], book: &mut [u8], file: &[u8]) -> FileRead
 }
 
 fn read_wide(book: &mut [u8], file: &[u8]) -> FileRead
-    requires { neededFor (length file.now / 12) book.old ≤ wideWords }
-    ensures answer { result ≡ onWords book.old (λ ws. fileAnswer ws file.now) (record { answer = notABook; posted = 0 }) }
-    ensures bytes { book.new ≡ with_words book.old (λ ws. wordsAfter ws (calls.file file.now)) }
+    requires { needed_for (length file.now / 12) book.old ≤ wide_words }
+    ensures answer { result ≡ on_words book.old (λ ws. file_answer ws file.now) (record { answer = not_a_book; posted = 0 }) }
+    ensures bytes { book.new ≡ with_words book.old (λ ws. words_after ws (calls.file file.now)) }
 {
     let mut words = [0u32; WIDE_WORDS];
     read_on(&mut words, book, file)
 }
 
 fn read_large(book: &mut [u8], file: &[u8]) -> FileRead
-    requires { neededFor (length file.now / 12) book.old ≤ bookWords }
-    ensures answer { result ≡ onWords book.old (λ ws. fileAnswer ws file.now) (record { answer = notABook; posted = 0 }) }
-    ensures bytes { book.new ≡ with_words book.old (λ ws. wordsAfter ws (calls.file file.now)) }
+    requires { needed_for (length file.now / 12) book.old ≤ book_words }
+    ensures answer { result ≡ on_words book.old (λ ws. file_answer ws file.now) (record { answer = not_a_book; posted = 0 }) }
+    ensures bytes { book.new ≡ with_words book.old (λ ws. words_after ws (calls.file file.now)) }
 {
     let mut words = [0u32; BOOK_WORDS];
     read_on(&mut words, book, file)
@@ -47,8 +47,8 @@ fn read_large(book: &mut [u8], file: &[u8]) -> FileRead
 
 // In the words lent where they suffice, else in a larger array (see `word_bytes::sizes`).
 fn read_in(words: &mut [u32], book: &mut [u8], file: &[u8]) -> FileRead
-    ensures answer { result ≡ onWords book.old (λ ws. fileAnswer ws file.now) (record { answer = notABook; posted = 0 }) }
-    ensures bytes { book.new ≡ with_words book.old (λ ws. wordsAfter ws (calls.file file.now)) }
+    ensures answer { result ≡ on_words book.old (λ ws. file_answer ws file.now) (record { answer = not_a_book; posted = 0 }) }
+    ensures bytes { book.new ≡ with_words book.old (λ ws. words_after ws (calls.file file.now)) }
 {
     let n = word_bytes::needed(book, file.len() / LINE_BYTES);
     if n <= words.len() {
@@ -65,8 +65,8 @@ fn read_in(words: &mut [u32], book: &mut [u8], file: &[u8]) -> FileRead
 }
 
 pub fn read(book: &mut [u8], file: &[u8]) -> FileRead
-    ensures answer { result ≡ onWords book.old (λ ws. fileAnswer ws file.now) (record { answer = notABook; posted = 0 }) }
-    ensures bytes { book.new ≡ with_words book.old (λ ws. wordsAfter ws (calls.file file.now)) }
+    ensures answer { result ≡ on_words book.old (λ ws. file_answer ws file.now) (record { answer = not_a_book; posted = 0 }) }
+    ensures bytes { book.new ≡ with_words book.old (λ ws. words_after ws (calls.file file.now)) }
 {
     let mut words = [0u32; SMALL_WORDS];
     read_in(&mut words, book, file)

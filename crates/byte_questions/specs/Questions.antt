@@ -1,39 +1,39 @@
 -- What is asked about a book in bytes, and what is answered.
 use Rattle.std.specs.Prelude.{List, [], ℕ, pos}
-use Rattle.rules.specs.Book.{countAnswer, noRead, readAnswer}
-use Rattle.rules.specs.Balance.{noTally, tallyAnswer, balanceAnswer, dayAhead, delivery}
+use Rattle.rules.specs.Book.{count_answer, no_read, read_answer}
+use Rattle.rules.specs.Balance.{no_tally, tally_answer, balance_answer, day_ahead, delivery}
 use Rattle.rules.specs.declared.Counted.{Counted}
 use Rattle.rules.specs.declared.EntryRead.{EntryRead}
 use Rattle.rules.specs.declared.TallyAnswer.{TallyAnswer}
 use Rattle.rules.specs.declared.BalanceAnswer.{BalanceAnswer}
-use Rattle.word_bytes.specs.Bytes.{onWords}
+use Rattle.word_bytes.specs.Bytes.{on_words}
 use Rattle.byte_questions.specs.declared.Question.{Question}
 use Rattle.byte_questions.specs.declared.Question.TheVariants.{Count, Entry, Tally, DayAhead, Delivery}
 use Rattle.byte_questions.specs.declared.Reply.{Reply}
 
-abbrev pub noReply : Reply
-noReply =
+abbrev pub no_reply : Reply
+no_reply =
     record {
       counted = record { answer = 0; count = 0 };
-      entry = noRead 0;
-      tallied = record { answer = 0; tally = noTally; bought = 0 };
+      entry = no_read 0;
+      tallied = record { answer = 0; tally = no_tally; bought = 0 };
       balance = record { answer = 0; balance = pos 0 };
     }
 
-abbrev withBalance : BalanceAnswer → Reply
-withBalance b = record { counted = noReply.counted; entry = noReply.entry; tallied = noReply.tallied; balance = b }
+abbrev with_balance : BalanceAnswer → Reply
+with_balance b = record { counted = no_reply.counted; entry = no_reply.entry; tallied = no_reply.tallied; balance = b }
 
 -- the answer to a question on a book's words
-unfoldable pub replyIn : List ℕ → Question → Reply
-replyIn ws Count =
-    record { counted = countAnswer ws; entry = noReply.entry; tallied = noReply.tallied; balance = noReply.balance }
-replyIn ws (Entry n) =
-    record { counted = noReply.counted; entry = readAnswer ws n; tallied = noReply.tallied; balance = noReply.balance }
-replyIn ws (Tally p d) =
-    record { counted = noReply.counted; entry = noReply.entry; tallied = tallyAnswer ws p d; balance = noReply.balance }
-replyIn ws (DayAhead p d) = withBalance (balanceAnswer dayAhead ws p d)
-replyIn ws (Delivery p d) = withBalance (balanceAnswer delivery ws p d)
+unfoldable pub reply_in : List ℕ → Question → Reply
+reply_in ws Count =
+    record { counted = count_answer ws; entry = no_reply.entry; tallied = no_reply.tallied; balance = no_reply.balance }
+reply_in ws (Entry n) =
+    record { counted = no_reply.counted; entry = read_answer ws n; tallied = no_reply.tallied; balance = no_reply.balance }
+reply_in ws (Tally p d) =
+    record { counted = no_reply.counted; entry = no_reply.entry; tallied = tally_answer ws p d; balance = no_reply.balance }
+reply_in ws (DayAhead p d) = with_balance (balance_answer day_ahead ws p d)
+reply_in ws (Delivery p d) = with_balance (balance_answer delivery ws p d)
 
 -- and on its bytes: no words are no book
-abbrev pub replyOn : List ℕ → Question → Reply
-replyOn bs q = onWords bs (λ ws. replyIn ws q) (replyIn [] q)
+abbrev pub reply_on : List ℕ → Question → Reply
+reply_on bs q = on_words bs (λ ws. reply_in ws q) (reply_in [] q)

@@ -1,10 +1,10 @@
 // Internal: questions about a book in lent bytes: the number of entries, one entry, a tally, a balance. The caller of each
 // function with a `requires` meets it.
 ghost use Rattle.std.specs.Prelude.{◌≡◌, ◌≤◌, length};
-ghost use Rattle.rules.specs.Words.{bookWords};
-ghost use Rattle.word_bytes.specs.Coding.{neededFor};
-ghost use Rattle.word_bytes.specs.Sizes.{wideWords};
-ghost use Rattle.byte_questions.specs.Questions.{noReply, replyIn, replyOn};
+ghost use Rattle.rules.specs.Words.{book_words};
+ghost use Rattle.word_bytes.specs.Coding.{needed_for};
+ghost use Rattle.word_bytes.specs.Sizes.{wide_words};
+ghost use Rattle.byte_questions.specs.Questions.{no_reply, reply_in, reply_on};
 
 use rules::layout::BOOK_WORDS;
 use rules::{BalanceAnswer, Counted, EntryRead, TallyAnswer};
@@ -30,7 +30,7 @@ pub struct Reply {
 }
 
 fn no_reply() -> Reply
-    ensures { result ≡ noReply }
+    ensures { result ≡ no_reply }
 {
     Reply {
         counted: Counted {
@@ -47,7 +47,7 @@ fn no_reply() -> Reply
 }
 
 fn with_count(book: &[u32]) -> Reply
-    ensures { result ≡ replyIn book.now Question.Count }
+    ensures { result ≡ reply_in book.now Question.Count }
 {
     let mut r = no_reply();
     let counted = book::count(book);
@@ -56,7 +56,7 @@ fn with_count(book: &[u32]) -> Reply
 }
 
 fn with_entry(book: &[u32], number: u32) -> Reply
-    ensures { result ≡ replyIn book.now (Question.Entry number) }
+    ensures { result ≡ reply_in book.now (Question.Entry number) }
 {
     let mut r = no_reply();
     let entry = book::entry(book, number);
@@ -65,7 +65,7 @@ fn with_entry(book: &[u32], number: u32) -> Reply
 }
 
 fn with_tally(book: &[u32], party: u32, day: u32) -> Reply
-    ensures { result ≡ replyIn book.now (Question.Tally party day) }
+    ensures { result ≡ reply_in book.now (Question.Tally party day) }
 {
     let mut r = no_reply();
     let tallied = position::tally(book, party, day);
@@ -74,7 +74,7 @@ fn with_tally(book: &[u32], party: u32, day: u32) -> Reply
 }
 
 fn with_day_ahead(book: &[u32], party: u32, day: u32) -> Reply
-    ensures { result ≡ replyIn book.now (Question.DayAhead party day) }
+    ensures { result ≡ reply_in book.now (Question.DayAhead party day) }
 {
     let mut r = no_reply();
     let balance = position::day_ahead(book, party, day);
@@ -83,7 +83,7 @@ fn with_day_ahead(book: &[u32], party: u32, day: u32) -> Reply
 }
 
 fn with_delivery(book: &[u32], party: u32, day: u32) -> Reply
-    ensures { result ≡ replyIn book.now (Question.Delivery party day) }
+    ensures { result ≡ reply_in book.now (Question.Delivery party day) }
 {
     let mut r = no_reply();
     let balance = position::delivery(book, party, day);
@@ -93,7 +93,7 @@ fn with_delivery(book: &[u32], party: u32, day: u32) -> Reply
 
 // The answer on a book's words.
 fn answered(book: &[u32], question: Question) -> Reply
-    ensures { result ≡ replyIn book.now question }
+    ensures { result ≡ reply_in book.now question }
 {
     match question {
         Question::Count => with_count(book),
@@ -106,24 +106,24 @@ fn answered(book: &[u32], question: Question) -> Reply
 
 // The same in words that have place for those of the entries.
 fn ask_on(words: &mut [u32], book: &[u8], question: Question) -> Reply
-    requires { neededFor 0 book.now ≤ length words.old }
-    ensures { result ≡ replyOn book.now question }
+    requires { needed_for 0 book.now ≤ length words.old }
+    ensures { result ≡ reply_on book.now question }
 {
     let n = word_bytes::decode(book, 0, words);
     answered(&words[..n], question)
 }
 
 fn ask_wide(book: &[u8], question: Question) -> Reply
-    requires { neededFor 0 book.now ≤ wideWords }
-    ensures { result ≡ replyOn book.now question }
+    requires { needed_for 0 book.now ≤ wide_words }
+    ensures { result ≡ reply_on book.now question }
 {
     let mut words = [0u32; WIDE_WORDS];
     ask_on(&mut words, book, question)
 }
 
 fn ask_large(book: &[u8], question: Question) -> Reply
-    requires { neededFor 0 book.now ≤ bookWords }
-    ensures { result ≡ replyOn book.now question }
+    requires { needed_for 0 book.now ≤ book_words }
+    ensures { result ≡ reply_on book.now question }
 {
     let mut words = [0u32; BOOK_WORDS];
     ask_on(&mut words, book, question)
@@ -131,7 +131,7 @@ fn ask_large(book: &[u8], question: Question) -> Reply
 
 // In the words lent where they suffice, else in a larger array (see `word_bytes::sizes`).
 fn ask_in(words: &mut [u32], book: &[u8], question: Question) -> Reply
-    ensures { result ≡ replyOn book.now question }
+    ensures { result ≡ reply_on book.now question }
 {
     let n = word_bytes::needed(book, 0);
     if n <= words.len() {
@@ -148,7 +148,7 @@ fn ask_in(words: &mut [u32], book: &[u8], question: Question) -> Reply
 }
 
 pub fn ask(book: &[u8], question: Question) -> Reply
-    ensures { result ≡ replyOn book.now question }
+    ensures { result ≡ reply_on book.now question }
 {
     let mut words = [0u32; SMALL_WORDS];
     ask_in(&mut words, book, question)

@@ -1,11 +1,11 @@
 // Collateral on a book in lent bytes. The caller of each function with a `requires` meets it.
 ghost use Rattle.std.specs.Prelude.{◌≡◌, ◌≤◌, length};
-ghost use Rattle.rules.specs.Words.{bookWords};
-ghost use Rattle.rules.specs.Refusals.{notABook};
-ghost use Rattle.rules.specs.Collateral.{collateralAnswer, refusedCollateral};
-ghost use Rattle.word_bytes.specs.Bytes.{onWords};
-ghost use Rattle.word_bytes.specs.Coding.{neededFor};
-ghost use Rattle.word_bytes.specs.Sizes.{wideWords};
+ghost use Rattle.rules.specs.Words.{book_words};
+ghost use Rattle.rules.specs.Refusals.{not_a_book};
+ghost use Rattle.rules.specs.Collateral.{collateral_answer, refused_collateral};
+ghost use Rattle.word_bytes.specs.Bytes.{on_words};
+ghost use Rattle.word_bytes.specs.Coding.{needed_for};
+ghost use Rattle.word_bytes.specs.Sizes.{wide_words};
 
 use case_figures::Case;
 use rules::Collateral;
@@ -14,24 +14,24 @@ use word_bytes::sizes::{MIDDLE_WORDS, SMALL_WORDS, WIDE_WORDS};
 
 // In words that have place for those of the entries.
 fn secure_on(words: &mut [u32], book: &[u8], case: Case) -> Collateral
-    requires { neededFor 0 book.now ≤ length words.old }
-    ensures { result ≡ onWords book.now (λ ws. collateralAnswer ws case) (refusedCollateral notABook) }
+    requires { needed_for 0 book.now ≤ length words.old }
+    ensures { result ≡ on_words book.now (λ ws. collateral_answer ws case) (refused_collateral not_a_book) }
 {
     let n = word_bytes::decode(book, 0, words);
     collateral::collateral(&words[..n], case)
 }
 
 fn secure_wide(book: &[u8], case: Case) -> Collateral
-    requires { neededFor 0 book.now ≤ wideWords }
-    ensures { result ≡ onWords book.now (λ ws. collateralAnswer ws case) (refusedCollateral notABook) }
+    requires { needed_for 0 book.now ≤ wide_words }
+    ensures { result ≡ on_words book.now (λ ws. collateral_answer ws case) (refused_collateral not_a_book) }
 {
     let mut words = [0u32; WIDE_WORDS];
     secure_on(&mut words, book, case)
 }
 
 fn secure_large(book: &[u8], case: Case) -> Collateral
-    requires { neededFor 0 book.now ≤ bookWords }
-    ensures { result ≡ onWords book.now (λ ws. collateralAnswer ws case) (refusedCollateral notABook) }
+    requires { needed_for 0 book.now ≤ book_words }
+    ensures { result ≡ on_words book.now (λ ws. collateral_answer ws case) (refused_collateral not_a_book) }
 {
     let mut words = [0u32; BOOK_WORDS];
     secure_on(&mut words, book, case)
@@ -39,7 +39,7 @@ fn secure_large(book: &[u8], case: Case) -> Collateral
 
 // In the words lent where they suffice, else in a larger array (see `word_bytes::sizes`).
 fn secure_in(words: &mut [u32], book: &[u8], case: Case) -> Collateral
-    ensures { result ≡ onWords book.now (λ ws. collateralAnswer ws case) (refusedCollateral notABook) }
+    ensures { result ≡ on_words book.now (λ ws. collateral_answer ws case) (refused_collateral not_a_book) }
 {
     let n = word_bytes::needed(book, 0);
     if n <= words.len() {
@@ -56,7 +56,7 @@ fn secure_in(words: &mut [u32], book: &[u8], case: Case) -> Collateral
 }
 
 pub fn secure(book: &[u8], case: Case) -> Collateral
-    ensures { result ≡ onWords book.now (λ ws. collateralAnswer ws case) (refusedCollateral notABook) }
+    ensures { result ≡ on_words book.now (λ ws. collateral_answer ws case) (refused_collateral not_a_book) }
 {
     let mut words = [0u32; SMALL_WORDS];
     secure_in(&mut words, book, case)

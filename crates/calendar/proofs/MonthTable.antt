@@ -7,7 +7,7 @@ use native.Mathlib.Nat.{add-zero, add-suc, suc-add, zero-add, le_of_suc-le-suc, 
 use lib.Dec.{eqb}
 use lib.ListN.{length, get_or}
 use borrow.Author.Tests.{eqb-true}
-use Rattle.calendar.specs.Calendar.{isLeap, daysIn, monthLength, monthStart, months}
+use Rattle.calendar.specs.Calendar.{is_leap, days_in, month_length, month_start, months}
 use Rattle.calendar.proofs.MonthLaws.{start-zero, start-step}
 use Rattle.numbers.proofs.TestLaws.{and_split}
 
@@ -18,29 +18,29 @@ table =
 -- x starts month m, and each number of a list the month after
 follows : ℕ → ℕ → List ℕ → Bool
 follows m x [] = true
-follows m x (y ∷ ys) = eqb y (x + monthLength m) && follows (suc m) y ys
+follows m x (y ∷ ys) = eqb y (x + month_length m) && follows (suc m) y ys
 
-follows-at : (m x : ℕ) (ys : List ℕ) → follows m x ys ≡ true → x ≡ monthStart m → (k : ℕ) → k ≤ length ys → get_or (x ∷ ys) k 0 ≡ monthStart (m + k)
+follows-at : (m x : ℕ) (ys : List ℕ) → follows m x ys ≡ true → x ≡ month_start m → (k : ℕ) → k ≤ length ys → get_or (x ∷ ys) k 0 ≡ month_start (m + k)
 unfolding follows
-follows-at m x ys e q zero h = q ∙ ap monthStart (sym (add-zero m))
+follows-at m x ys e q zero h = q ∙ ap month_start (sym (add-zero m))
 follows-at m x [] e q (suc k) h = absurd (not-suc-le-zero h)
 follows-at m x (y ∷ ys) e q (suc k) h =
-    let s = and_split (eqb y (x + monthLength m)) (follows (suc m) y ys) e in
-    follows-at (suc m) y ys s.1 (eqb-true y (x + monthLength m) s.0 ∙ ap (λ n. n + monthLength m) q ∙ sym (start-step m)) k (le_of_suc-le-suc h)
-    ∙ ap monthStart (suc-add m k ∙ sym (add-suc m k))
+    let s = and_split (eqb y (x + month_length m)) (follows (suc m) y ys) e in
+    follows-at (suc m) y ys s.1 (eqb-true y (x + month_length m) s.0 ∙ ap (λ n. n + month_length m) q ∙ sym (start-step m)) k (le_of_suc-le-suc h)
+    ∙ ap month_start (suc-add m k ∙ sym (add-suc m k))
 
 -- a list of month starts, from day 0
-isTable : List ℕ → Bool
-isTable [] = false
-isTable (x ∷ xs) = eqb x 0 && follows 0 x xs
+is_table : List ℕ → Bool
+is_table [] = false
+is_table (x ∷ xs) = eqb x 0 && follows 0 x xs
 
-starts-at : (xs : List ℕ) → isTable xs ≡ true → (k : ℕ) → k < length xs → get_or xs k 0 ≡ monthStart k
-unfolding isTable
+starts-at : (xs : List ℕ) → is_table xs ≡ true → (k : ℕ) → k < length xs → get_or xs k 0 ≡ month_start k
+unfolding is_table
 starts-at [] e k h = absurd (not-suc-le-zero h)
 starts-at (x ∷ xs) e k h =
     let s = and_split (eqb x 0) (follows 0 x xs) e in
-    follows-at 0 x xs s.1 (eqb-true x 0 s.0 ∙ sym start-zero) k (le_of_suc-le-suc h) ∙ ap monthStart (zero-add k)
+    follows-at 0 x xs s.1 (eqb-true x 0 s.0 ∙ sym start-zero) k (le_of_suc-le-suc h) ∙ ap month_start (zero-add k)
 
-pub table_at : (k : ℕ) → k ≤ months → get_or table k 0 ≡ monthStart k
-unfolding table isTable follows monthLength daysIn isLeap
+pub table_at : (k : ℕ) → k ≤ months → get_or table k 0 ≡ month_start k
+unfolding table is_table follows month_length days_in is_leap
 table_at k h = starts-at table refl k (suc-le-suc h)

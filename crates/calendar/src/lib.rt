@@ -1,6 +1,6 @@
 // The billing period of a day, found in a table of the months' first days.
 ghost use Rattle.std.specs.Prelude.{◌≡◌};
-ghost use Rattle.calendar.specs.Calendar.{monthOf};
+ghost use Rattle.calendar.specs.Calendar.{month_of};
 
 pub mod rule;
 
@@ -98,7 +98,7 @@ const MONTH_STARTS: [u16; 1201] = [
 
 // The month of a day, counted from January 2000; 1200 for a day past the table.
 pub fn month_of(day: u32) -> u32
-    ensures { result ≡ monthOf day }
+    ensures { result ≡ month_of day }
 {
     if day >= 36525 {
         return 1200;

@@ -1,10 +1,10 @@
 // The first day of a month by the Gregorian rule: a few divisions, no table and no loop (02, T-08).
 ghost use Rattle.std.specs.Prelude.{◌≡◌};
-ghost use Rattle.calendar.specs.Calendar.{leapDays, monthStart};
+ghost use Rattle.calendar.specs.Calendar.{leap_days, month_start};
 
 // The leap days of the first years from 2000 on: of each fourth year, not of a hundredth, but of a four-hundredth.
 fn leap_days(years: u32) -> u64
-    ensures { result ≡ leapDays years }
+    ensures { result ≡ leap_days years }
 {
     let n = years as u64;
     (n + 3) / 4 - (n + 99) / 100 + (n + 399) / 400
@@ -13,7 +13,7 @@ fn leap_days(years: u32) -> u64
 // The first day of a month, counted from January 2000; 64 bits hold that of any month. Years begin in March here, the
 // first in March 1999, 306 days before day 0: so a leap day is the last of its year.
 pub fn month_start(month: u32) -> u64
-    ensures { result ≡ monthStart month }
+    ensures { result ≡ month_start month }
 {
     let m = month as u64;
     let years = (m + 10) / 12;

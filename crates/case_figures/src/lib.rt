@@ -1,6 +1,6 @@
 // A collateral case, put together one figure at a time (01, 'Collateral'), and the month answers that it holds.
 ghost use Rattle.std.specs.Prelude.{◌≡◌};
-ghost use Rattle.case_figures.specs.CaseFigures.{plainCase, withParty, withDay, withLicence, withHoliday, withResponsible, withCapacity, withNonbusiness, withDefaults, withMonths, withUsed, withRk, withRt, withYt, withScore, withBest};
+ghost use Rattle.case_figures.specs.CaseFigures.{plain_case, with_party, with_day, with_licence, with_holiday, with_responsible, with_capacity, with_nonbusiness, with_defaults, with_months, with_used, with_rk, with_rt, with_yt, with_score, with_best};
 
 // A month's average price (AOSMF) and imbalance volume (AEDM).
 #[repr(C)]
@@ -70,7 +70,7 @@ pub struct Case {
 impl Case {
     // A plain supplier's case: all figures 0, M 1, k 3, own group.
     pub fn supplier() -> Self
-        ensures { result ≡ plainCase }
+        ensures { result ≡ plain_case }
     {
         let none = Month { aosmf: 0, aedm: 0 };
         Case {
@@ -100,63 +100,63 @@ impl Case {
     }
 
     pub fn with_party(mut self, party: u32) -> Self
-        ensures { result ≡ withParty self party }
+        ensures { result ≡ with_party self party }
     {
         self.asked.party = party;
         self
     }
 
     pub fn with_day(mut self, day: u32) -> Self
-        ensures { result ≡ withDay self day }
+        ensures { result ≡ with_day self day }
     {
         self.asked.day = day;
         self
     }
 
     pub fn with_licence(mut self, licence: u32) -> Self
-        ensures { result ≡ withLicence self licence }
+        ensures { result ≡ with_licence self licence }
     {
         self.margin.licence = licence;
         self
     }
 
     pub fn with_capacity(mut self, capacity: u64) -> Self
-        ensures { result ≡ withCapacity self capacity }
+        ensures { result ≡ with_capacity self capacity }
     {
         self.margin.capacity = capacity;
         self
     }
 
     pub fn with_nonbusiness(mut self, nonbusiness: u32) -> Self
-        ensures { result ≡ withNonbusiness self nonbusiness }
+        ensures { result ≡ with_nonbusiness self nonbusiness }
     {
         self.trading.nonbusiness = nonbusiness;
         self
     }
 
     pub fn with_holiday(mut self, holiday: u32) -> Self
-        ensures { result ≡ withHoliday self holiday }
+        ensures { result ≡ with_holiday self holiday }
     {
         self.trading.holiday = holiday;
         self
     }
 
     pub fn with_defaults(mut self, defaults: u32) -> Self
-        ensures { result ≡ withDefaults self defaults }
+        ensures { result ≡ with_defaults self defaults }
     {
         self.trading.defaults = defaults;
         self
     }
 
     pub fn with_responsible(mut self, responsible: u32) -> Self
-        ensures { result ≡ withResponsible self responsible }
+        ensures { result ≡ with_responsible self responsible }
     {
         self.group.responsible = responsible;
         self
     }
 
     pub fn with_months(mut self, months: [Month; 3]) -> Self
-        ensures { result ≡ withMonths self months }
+        ensures { result ≡ with_months self months }
     {
         let mut group = self.group;
         group.months = months;
@@ -165,42 +165,42 @@ impl Case {
     }
 
     pub fn with_used(mut self, used: u32) -> Self
-        ensures { result ≡ withUsed self used }
+        ensures { result ≡ with_used self used }
     {
         self.group.used = used;
         self
     }
 
     pub fn with_rk(mut self, rk: u32) -> Self
-        ensures { result ≡ withRk self rk }
+        ensures { result ≡ with_rk self rk }
     {
         self.group.rk = rk;
         self
     }
 
     pub fn with_rt(mut self, rt: u64) -> Self
-        ensures { result ≡ withRt self rt }
+        ensures { result ≡ with_rt self rt }
     {
         self.group.rt = rt;
         self
     }
 
     pub fn with_yt(mut self, yt: u64) -> Self
-        ensures { result ≡ withYt self yt }
+        ensures { result ≡ with_yt self yt }
     {
         self.yek.yt = yt;
         self
     }
 
     pub fn with_score(mut self, score: u32) -> Self
-        ensures { result ≡ withScore self score }
+        ensures { result ≡ with_score self score }
     {
         self.yek.score = score;
         self
     }
 
     pub fn with_best(mut self, best: u32) -> Self
-        ensures { result ≡ withBest self best }
+        ensures { result ≡ with_best self best }
     {
         self.yek.best = best;
         self

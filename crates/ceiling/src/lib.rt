@@ -1,8 +1,8 @@
 // The sales ceiling of a settlement period (01, 'Sales ceiling').
 ghost use Rattle.std.specs.Prelude.{◌≡◌, [], ◌∷◌, leb};
 ghost use Rattle.numbers.specs.Tests.{every};
-ghost use Rattle.rules.specs.Entry.{mostVolume};
-ghost use Rattle.rules.specs.Ceiling.{isRecordable, ceilingAnswer};
+ghost use Rattle.rules.specs.Entry.{most_volume};
+ghost use Rattle.rules.specs.Ceiling.{is_recordable, ceiling_answer};
 
 use rules::CeilingAnswer;
 use rules::bounds::MOST_OFFER;
@@ -13,7 +13,7 @@ const TWICE_FREE: u64 = 50000;
 
 // 12, or whether an offer is recordable beside a net bilateral purchase, a net futures position and a capacity.
 pub fn ceiling(offer: u32, bilateral: u32, futures: u32, capacity: u32) -> CeilingAnswer
-    ensures { result ≡ ceilingAnswer offer bilateral futures capacity }
+    ensures { result ≡ ceiling_answer offer bilateral futures capacity }
 {
     if !in_range(offer, bilateral, futures, capacity) {
         return CeilingAnswer {
@@ -28,7 +28,7 @@ pub fn ceiling(offer: u32, bilateral: u32, futures: u32, capacity: u32) -> Ceili
 }
 
 fn in_range(offer: u32, bilateral: u32, futures: u32, capacity: u32) -> bool
-    ensures { result ≡ every (leb offer mostVolume ∷ leb bilateral mostVolume ∷ leb futures mostVolume ∷ leb capacity mostVolume ∷ []) }
+    ensures { result ≡ every (leb offer most_volume ∷ leb bilateral most_volume ∷ leb futures most_volume ∷ leb capacity most_volume ∷ []) }
 {
     (offer <= MOST_OFFER)
         & (bilateral <= MOST_OFFER)
@@ -38,7 +38,7 @@ fn in_range(offer: u32, bilateral: u32, futures: u32, capacity: u32) -> bool
 
 // 2 × O is at most (larger of 50,000 and 3 × (N + V)) + 2 × G; 64 bits hold both sides for any figures.
 fn is_recordable(offer: u32, bilateral: u32, futures: u32, capacity: u32) -> bool
-    ensures { result ≡ isRecordable offer bilateral futures capacity }
+    ensures { result ≡ is_recordable offer bilateral futures capacity }
 {
     let bought = (bilateral as u64) + (futures as u64);
     let covered = numbers::larger(TWICE_FREE, 3 * bought);

@@ -13,10 +13,10 @@ use borrow.Author.Tests.{eqb-true, eqb-false, eq-eqb, not-true}
 use Rattle.numbers.specs.Sums.{total}
 use Rattle.numbers.specs.Tests.{any, all}
 use Rattle.numbers.proofs.TestLaws.{bool_cases, below-or-above, and_split, or_cases, or_left, or_right}
-use Rattle.numbers.proofs.ListLaws.{getD-blank}
+use Rattle.numbers.proofs.ListLaws.{get_or-blank}
 use Rattle.numbers.proofs.SumLaws.{cond-limit, total-append, total-cong, total-bound-where}
 use Rattle.rules.specs.Entry.{Label, Record, legal}
-use Rattle.cells.specs.Cells.{Cells, oneIf, addTo, addToEach, added, over, blank, filled, goesTo, inCell, apart, Limited}
+use Rattle.cells.specs.Cells.{Cells, one_if, add_to, add_to_each, added, over, blank, filled, goes_to, in_cell, apart, Limited}
 use Rattle.cells.specs.Reordered.{Reordered, none, keep, exchange, further}
 
 -- two tests, each of which implies the other
@@ -44,41 +44,41 @@ pub to_none : (j : ℕ) → any (eqb j) [] ≡ true → ⊥
 unfolding any
 to_none j e = true≢false (sym e)
 
-pub goes_one : (b : Bool) (j i : ℕ) → any (eqb j) (oneIf b i) ≡ true → (b ≡ true) × (i ≡ j)
+pub goes_one : (b : Bool) (j i : ℕ) → any (eqb j) (one_if b i) ≡ true → (b ≡ true) × (i ≡ j)
 goes_one true j i e = elim (to-either j i [] e) [ inl q ↦ (refl, q) | inr q ↦ absurd (to_none j q) ]
 goes_one false j i e = absurd (to_none j e)
 
-pub one-goes : (b : Bool) (j i : ℕ) → b ≡ true → i ≡ j → any (eqb j) (oneIf b i) ≡ true
+pub one-goes : (b : Bool) (j i : ℕ) → b ≡ true → i ≡ j → any (eqb j) (one_if b i) ≡ true
 one-goes b j i e q = rw e (to-first j i [] q)
 
-pub one_apart : (b : Bool) (i : ℕ) → apart (oneIf b i) ≡ true
+pub one_apart : (b : Bool) (i : ℕ) → apart (one_if b i) ≡ true
 unfolding apart any
 one_apart true i = refl
 one_apart false i = refl
 
 -- one cell
-pub length-add : (table : List ℕ) (i a : ℕ) → length (addTo table i a) ≡ length table
+pub length-add : (table : List ℕ) (i a : ℕ) → length (add_to table i a) ≡ length table
 length-add table i a = length-set table i _
 
-add_same : (table : List ℕ) (i a : ℕ) → i < length table → get_or (addTo table i a) i 0 ≡ get_or table i 0 + a
+add_same : (table : List ℕ) (i a : ℕ) → i < length table → get_or (add_to table i a) i 0 ≡ get_or table i 0 + a
 add_same table i a h = get_or-set_same table i _ 0 h
 
-pub add-other : (table : List ℕ) (i j a : ℕ) → (j ≡ i → ⊥) → get_or (addTo table i a) j 0 ≡ get_or table j 0
+pub add-other : (table : List ℕ) (i j a : ℕ) → (j ≡ i → ⊥) → get_or (add_to table i a) j 0 ≡ get_or table j 0
 add-other table i j a h = get_or-set_other table i j _ 0 h
 
 -- several
-length-each : (is table : List ℕ) (a : ℕ) → length (addToEach table is a) ≡ length table
-unfolding addToEach
+length-each : (is table : List ℕ) (a : ℕ) → length (add_to_each table is a) ≡ length table
+unfolding add_to_each
 length-each [] table a = refl
-length-each (i ∷ is) table a = length-each is (addTo table i a) a ∙ length-add table i a
+length-each (i ∷ is) table a = length-each is (add_to table i a) a ∙ length-add table i a
 
 each-cell : (is table : List ℕ) (j a : ℕ) → apart is ≡ true → j < length table →
-    get_or (addToEach table is a) j 0 ≡ get_or table j 0 + cond (any (eqb j) is) a 0
-unfolding addToEach apart any
+    get_or (add_to_each table is a) j 0 ≡ get_or table j 0 + cond (any (eqb j) is) a 0
+unfolding add_to_each apart any
 each-cell [] table j a e h = sym (add-zero _)
 each-cell (i ∷ is) table j a e h =
     let s = and_split (not (any (eqb i) is)) (apart is) e in
-    let ih = each-cell is (addTo table i a) j a s.1 (rw (length-add table i a) h) in
+    let ih = each-cell is (add_to table i a) j a s.1 (rw (length-add table i a) h) in
     elim (bool_cases (eqb j i)) [
       | inl q ↦
           let o : j ≡ i = eqb-true j i q in
@@ -113,7 +113,7 @@ length-blank n = length-replicate n 0
 
 blank-cell : (n j : ℕ) → get_or (blank n) j 0 ≡ 0
 unfolding blank
-blank-cell n j = getD-blank n j 0
+blank-cell n j = get_or-blank n j 0
 
 module _ (at : Cells) where
   length_over : (rs : List Record) (table : List ℕ) → length (over (added at) rs table) ≡ length table
@@ -126,7 +126,7 @@ module _ (at : Cells) where
   length-filled n rs = length_over rs (blank n) ∙ length-blank n
 
   module _ (most : ℕ) (m : Limited at most) where
-    over-cell : (j : ℕ) (rs : List Record) (table : List ℕ) → j < length table → get_or (over (added at) rs table) j 0 ≡ get_or table j 0 + total (inCell at j) rs
+    over-cell : (j : ℕ) (rs : List Record) (table : List ℕ) → j < length table → get_or (over (added at) rs table) j 0 ≡ get_or table j 0 + total (in_cell at j) rs
     unfolding over added total
     over-cell j [] table h = sym (add-zero _)
     over-cell j (r ∷ rs) table h =
@@ -135,13 +135,13 @@ module _ (at : Cells) where
         omega (arith, over-cell j rs more (rw long h), each-cell (at r.label) table j r.amount (m.apart-at r.label) h)
 
     -- a cell is the sum of what the entries add to it
-    pub cell-sum : (n j : ℕ) → j < n → (rs : List Record) → get_or (filled at n rs) j 0 ≡ total (inCell at j) rs
+    pub cell-sum : (n j : ℕ) → j < n → (rs : List Record) → get_or (filled at n rs) j 0 ≡ total (in_cell at j) rs
     unfolding filled
     cell-sum n j h rs = omega (arith, over-cell j rs (blank n) (rw (length-blank n) h), blank-cell n j)
 
     -- by a test that holds of just the entries that go there
-    pub cell-tested : (n j : ℕ) → j < n → (test : Label → Bool) → ((l : Label) → goesTo at j l ≡ true → test l ≡ true) →
-        ((l : Label) → test l ≡ true → goesTo at j l ≡ true) → (rs : List Record) → get_or (filled at n rs) j 0 ≡ total (λ r. cond (test r.label) r.amount 0) rs
+    pub cell-tested : (n j : ℕ) → j < n → (test : Label → Bool) → ((l : Label) → goes_to at j l ≡ true → test l ≡ true) →
+        ((l : Label) → test l ≡ true → goes_to at j l ≡ true) → (rs : List Record) → get_or (filled at n rs) j 0 ≡ total (λ r. cond (test r.label) r.amount 0) rs
     cell-tested n j h test there back rs =
         cell-sum n j h rs ∙ total-cong _ _ (λ r. ap (λ b. cond b r.amount 0) (same_test (there r.label) (back r.label))) rs
 
@@ -151,7 +151,7 @@ module _ (at : Cells) where
         elim (below-or-above j n) [
           | inl h ↦
               rw (cell-sum n j h rs)
-              (total-bound-where legal (inCell at j) most (λ r l. cond-limit (goesTo at j r.label) (m.amount r j l) (λ e. zero-le)) rs ok)
+              (total-bound-where legal (in_cell at j) most (λ r l. cond-limit (goes_to at j r.label) (m.amount r j l) (λ e. zero-le)) rs ok)
           | inr h ↦ rw (get_or-eq_default (filled at n rs) 0 {n = j} (rw (length-filled n rs) h)) zero-le
         ]
 
@@ -160,4 +160,4 @@ module _ (at : Cells) where
     filled-reordered n {rs} {ss} o =
         ext_get_or 0 (filled at n rs) (filled at n ss) (length-filled n rs ∙ sym (length-filled n ss))
         (λ j h. let l : j < n = rw (length-filled n rs) at h in
-        cell-sum n j l rs ∙ total-reordered (inCell at j) o ∙ sym (cell-sum n j l ss))
+        cell-sum n j l rs ∙ total-reordered (in_cell at j) o ∙ sym (cell-sum n j l ss))

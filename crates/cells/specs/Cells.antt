@@ -9,20 +9,20 @@ abbrev pub Cells : Type 0
 Cells = Label → List ℕ
 
 -- one cell where a test holds, else none
-abbrev pub oneIf : Bool → ℕ → List ℕ
-oneIf b i = cond b (i ∷ []) []
+abbrev pub one_if : Bool → ℕ → List ℕ
+one_if b i = cond b (i ∷ []) []
 
 -- an amount more in a cell, and in each of several
-abbrev pub addTo : List ℕ → ℕ → ℕ → List ℕ
-addTo table i a = set table i (get_or table i 0 + a)
+abbrev pub add_to : List ℕ → ℕ → ℕ → List ℕ
+add_to table i a = set table i (get_or table i 0 + a)
 
-unfoldable pub addToEach : List ℕ → List ℕ → ℕ → List ℕ
-addToEach table [] a = table
-addToEach table (i ∷ is) a = addToEach (addTo table i a) is a
+unfoldable pub add_to_each : List ℕ → List ℕ → ℕ → List ℕ
+add_to_each table [] a = table
+add_to_each table (i ∷ is) a = add_to_each (add_to table i a) is a
 
 -- a table with one entry more
 unfoldable pub added : Cells → Record → List ℕ → List ℕ
-added at r table = addToEach table (at r.label) r.amount
+added at r table = add_to_each table (at r.label) r.amount
 
 -- each entry in turn
 module _ {S : Type 0} where
@@ -38,11 +38,11 @@ unfoldable pub filled : Cells → ℕ → List Record → List ℕ
 filled at n rs = over (added at) rs (blank n)
 
 -- what an entry adds to a cell
-abbrev pub goesTo : Cells → ℕ → Label → Bool
-goesTo at j l = any (eqb j) (at l)
+abbrev pub goes_to : Cells → ℕ → Label → Bool
+goes_to at j l = any (eqb j) (at l)
 
-abbrev pub inCell : Cells → ℕ → Record → ℕ
-inCell at j r = cond (goesTo at j r.label) r.amount 0
+abbrev pub in_cell : Cells → ℕ → Record → ℕ
+in_cell at j r = cond (goes_to at j r.label) r.amount 0
 
 -- no cell stands twice among several
 unfoldable pub apart : List ℕ → Bool
@@ -52,7 +52,7 @@ apart (i ∷ is) = not (any (eqb i) is) && apart is
 -- an entry goes to a cell once, and an amount that goes to one is at most a number
 pub record Limited (at : Cells) (most : ℕ) : Type 0 where
   pub apart-at : (l : Label) → apart (at l) ≡ true
-  pub amount : (r : Record) (j : ℕ) → legal r ≡ true → goesTo at j r.label ≡ true → r.amount ≤ most
+  pub amount : (r : Record) (j : ℕ) → legal r ≡ true → goes_to at j r.label ≡ true → r.amount ≤ most
 
 -- no cell is above a number
 pub record AtMost (most : ℕ) (table : List ℕ) : Type 0 where

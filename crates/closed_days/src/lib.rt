@@ -1,18 +1,18 @@
 // Internal: the closed days of a book in a table, for files of many lines. A caller meets each `requires`.
 ghost use Rattle.std.specs.Prelude.{◌≡◌, true, false, ◌||◌, ℕ, ◌+◌, ◌<◌, ◌≤◌, length, get_or, drop};
 ghost use Rattle.numbers.specs.Tests.{any};
-ghost use Rattle.rules.specs.Entry.{isMark, dayPlaces};
-ghost use Rattle.rules.specs.Words.{decode, entryOk, isBook, entries};
-ghost use Rattle.rules.specs.Book.{isMarkOf, isClosed};
+ghost use Rattle.rules.specs.Entry.{is_mark, day_places};
+ghost use Rattle.rules.specs.Words.{decode, entry_ok, is_book, entries};
+ghost use Rattle.rules.specs.Book.{is_mark_of, is_closed};
 
 use rules::layout::{ENTRY_WORDS, HEAD_WORDS, MARK};
 
 // Marks the day of a mark as closed.
 fn close_at(book: &[u32], at: usize, closed: &mut [bool])
     requires at_in_bounds { at + 5 ≤ length book.now }
-    requires book_value { entryOk (drop at book.now) ≡ true }
-    requires closed_len { length closed.old ≡ dayPlaces }
-    ensures { (d : ℕ) → d < dayPlaces → get_or closed.new d false ≡ get_or closed.old d false || isMarkOf d (decode (drop at book.now)) }
+    requires book_value { entry_ok (drop at book.now) ≡ true }
+    requires closed_len { length closed.old ≡ day_places }
+    ensures { (d : ℕ) → d < day_places → get_or closed.new d false ≡ get_or closed.old d false || is_mark_of d (decode (drop at book.now)) }
 {
     if words::type_at(book, at) != MARK {
         return;
@@ -23,9 +23,9 @@ fn close_at(book: &[u32], at: usize, closed: &mut [bool])
 
 // The closed days of a book, once, so that no line searches for them again.
 pub fn close_days(book: &[u32], closed: &mut [bool])
-    requires book_value { isBook book.now ≡ true }
-    requires closed_len { length closed.old ≡ dayPlaces }
-    ensures { (d : ℕ) → d < dayPlaces → get_or closed.new d false ≡ get_or closed.old d false || isClosed d (entries book.now) }
+    requires book_value { is_book book.now ≡ true }
+    requires closed_len { length closed.old ≡ day_places }
+    ensures { (d : ℕ) → d < day_places → get_or closed.new d false ≡ get_or closed.old d false || is_closed d (entries book.now) }
 {
     let count = words::count_of(book) as usize;
     let mut i = 0;
@@ -37,8 +37,8 @@ pub fn close_days(book: &[u32], closed: &mut [bool])
 
 // Whether an entry is a mark: without one no day is closed.
 pub fn has_mark(book: &[u32]) -> bool
-    requires { isBook book.now ≡ true }
-    ensures { result ≡ any isMark (entries book.now) }
+    requires { is_book book.now ≡ true }
+    ensures { result ≡ any is_mark (entries book.now) }
 {
     let count = words::count_of(book) as usize;
     let mut n = 0;

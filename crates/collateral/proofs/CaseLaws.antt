@@ -10,22 +10,22 @@ use lib.ListN.{length}
 use Rattle.numbers.specs.Causes.{unless}
 use Rattle.numbers.specs.Rounding.{round_up}
 use Rattle.numbers.proofs.CauseLaws.{unless-zero, clear-all, done-else}
-use Rattle.rules.specs.Entry.{partyOk, dayOk}
-use Rattle.rules.specs.Words.{isBook, entries}
-use Rattle.rules.specs.Balance.{partyDayCause}
-use Rattle.rules.specs.Collateral.{tradingDays, moneyOf, debts, debt, quarters, margin, trading, imbalance, risk, yek, total_of, figuresOk, collateralCause, collateralOf, collateralAnswer, refusedCollateral}
+use Rattle.rules.specs.Entry.{party_ok, day_ok}
+use Rattle.rules.specs.Words.{is_book, entries}
+use Rattle.rules.specs.Balance.{party_day_cause}
+use Rattle.rules.specs.Collateral.{trading_days, money_of, debts, debt, quarters, margin, trading, imbalance, risk, yek, total_of, figures_ok, collateral_cause, collateral_of, collateral_answer, refused_collateral}
 use Rattle.case_figures.specs.declared.Case.{Case}
 use Rattle.rules.specs.declared.Collateral.{Collateral}
 use Rattle.rules.proofs.WordLaws.{book-facts}
 use Rattle.rules.proofs.Limits.{case-ranges, debt-sum, trading-product, total-limit}
 
-few-entries : (ws : List ℕ) → isBook ws ≡ true → length (entries ws) ≤ 3072
+few-entries : (ws : List ℕ) → is_book ws ≡ true → length (entries ws) ≤ 3072
 few-entries ws b = let f = book-facts ws b in omega arith
 
 -- k, D and q as the code finds them
-module _ (c : Case) (ws : List ℕ) (b : isBook ws ≡ true) (f : figuresOk c ≡ true) {k d q : ℕ}
-    (ek : k ≡ tradingDays c.trading.nonbusiness)
-    (ed : d ≡ debts (moneyOf c.asked.party (entries ws)) 30 c.asked.day k k)
+module _ (c : Case) (ws : List ℕ) (b : is_book ws ≡ true) (f : figures_ok c ≡ true) {k d q : ℕ}
+    (ek : k ≡ trading_days c.trading.nonbusiness)
+    (ed : d ≡ debts (money_of c.asked.party (entries ws)) 30 c.asked.day k k)
     (eq : q ≡ cond (eqb c.trading.holiday 1 && ltb 3 k) 3 4) where
   debt-is : d ≡ debt c (entries ws)
   unfolding debt
@@ -48,7 +48,7 @@ module _ (c : Case) (ws : List ℕ) (b : isBook ws ≡ true) (f : figuresOk c �
   trading-is e = rw (← debt-is, ← quarters-is) e
 
 -- the items and the larger of the first two
-module _ (c : Case) (ws : List ℕ) (b : isBook ws ≡ true) (f : figuresOk c ≡ true) {m t i r y l : ℕ}
+module _ (c : Case) (ws : List ℕ) (b : is_book ws ≡ true) (f : figures_ok c ≡ true) {m t i r y l : ℕ}
     (em : m ≡ margin c) (et : t ≡ trading c (entries ws)) (ei : i ≡ imbalance c) (er : r ≡ risk c) (ey : y ≡ yek c) (el : l ≡ max m t) where
   total-is : l + i + r + y ≡ total_of c (entries ws)
   unfolding total_of
@@ -57,26 +57,26 @@ module _ (c : Case) (ws : List ℕ) (b : isBook ws ≡ true) (f : figuresOk c �
   pub total-fits : l + i + r + y ≤ 77974500000000000
   total-fits = rw total-is (total-limit c (case-ranges c f) (entries ws) (book-facts ws b).legals (few-entries ws b))
 
-  pub items-are : record { answer = 0; margin = m; trading = t; imbalance = i; risk = r; yek = y; total = l + i + r + y } ≡ collateralOf c (entries ws)
-  unfolding collateralOf
+  pub items-are : record { answer = 0; margin = m; trading = t; imbalance = i; risk = r; yek = y; total = l + i + r + y } ≡ collateral_of c (entries ws)
+  unfolding collateral_of
   items-are = rw (total-is, em, et, ei, er, ey)
 
 -- a case that no cause refuses, and one that a cause refuses
 pub record Allowed (ws : List ℕ) (c : Case) : Type 0 where
-  pub is-book : isBook ws ≡ true
-  pub figures : figuresOk c ≡ true
+  pub is-book : is_book ws ≡ true
+  pub figures : figures_ok c ≡ true
 
-pub allowed : (ws : List ℕ) (c : Case) → collateralCause ws c ≡ 0 → Allowed ws c
-unfolding collateralCause partyDayCause
+pub allowed : (ws : List ℕ) (c : Case) → collateral_cause ws c ≡ 0 → Allowed ws c
+unfolding collateral_cause party_day_cause
 allowed ws c e =
-    let h = clear-all (partyDayCause ws c.asked.party c.asked.day ∷ unless (figuresOk c) 12 ∷ []) e in
-    let p = clear-all (unless (isBook ws) 1 ∷ unless (partyOk c.asked.party) 3 ∷ unless (dayOk c.asked.day) 4 ∷ []) h.0 in
+    let h = clear-all (party_day_cause ws c.asked.party c.asked.day ∷ unless (figures_ok c) 12 ∷ []) e in
+    let p = clear-all (unless (is_book ws) 1 ∷ unless (party_ok c.asked.party) 3 ∷ unless (day_ok c.asked.day) 4 ∷ []) h.0 in
     record { is-book = unless-zero _ 0 p.0; figures = unless-zero _ 11 h.1.0 }
 
-pub answer-done : (ws : List ℕ) (c : Case) {k : ℕ} {r : Collateral} → k ≡ collateralCause ws c → k ≡ 0 → r ≡ collateralOf c (entries ws) → r ≡ collateralAnswer ws c
-unfolding collateralAnswer
+pub answer-done : (ws : List ℕ) (c : Case) {k : ℕ} {r : Collateral} → k ≡ collateral_cause ws c → k ≡ 0 → r ≡ collateral_of c (entries ws) → r ≡ collateral_answer ws c
+unfolding collateral_answer
 answer-done ws c e z q = q ∙ sym (rw (← e, z))
 
-pub answer-refused : (ws : List ℕ) (c : Case) {k : ℕ} → k ≡ collateralCause ws c → (k ≡ 0 → ⊥) → refusedCollateral k ≡ collateralAnswer ws c
-unfolding collateralAnswer
-answer-refused ws c {k} e n = rw (← e) (sym (done-else k (collateralOf c (entries ws)) (refusedCollateral k) n))
+pub answer-refused : (ws : List ℕ) (c : Case) {k : ℕ} → k ≡ collateral_cause ws c → (k ≡ 0 → ⊥) → refused_collateral k ≡ collateral_answer ws c
+unfolding collateral_answer
+answer-refused ws c {k} e n = rw (← e) (sym (done-else k (collateral_of c (entries ws)) (refused_collateral k) n))

@@ -15,10 +15,10 @@ use mir.ValLaws.{to_z-of_z}
 use borrow.Author.Tests.{le-ltb}
 use Rattle.numbers.specs.Tests.{all}
 use Rattle.numbers.specs.Signed.{lower}
-use Rattle.rules.specs.Collateral.{highestPrice, lowestVolume}
-use Rattle.case_figures.specs.CaseFigures.{noMonth}
+use Rattle.rules.specs.Collateral.{highest_price, lowest_volume}
+use Rattle.case_figures.specs.CaseFigures.{no_month}
 use Rattle.case_figures.specs.declared.Month.{Month}
-use Rattle.collateral.specs.Months.{lowestOf}
+use Rattle.collateral.specs.Months.{lowest_of}
 
 -- a volume, read back from its bits
 pub volume-back : (z : ℤ) → mag z < 9223372036854775808 → to_z w64 (of_z w64 z) ≡ z
@@ -52,31 +52,31 @@ module _ {A : Type 0} (ok : A → Bool) where
 
 -- from the last used month answer to the latest
 module _ (ms : List Month) (n : ℕ) (fits : n ≤ length ms) where
-  used-cons : (i : ℕ) → i < n → drop i (take n ms) ≡ get_or ms i noMonth ∷ drop (suc i) (take n ms)
+  used-cons : (i : ℕ) → i < n → drop i (take n ms) ≡ get_or ms i no_month ∷ drop (suc i) (take n ms)
   used-cons i h =
-      drop-cons (take n ms) i noMonth (rw (length-take-le n ms fits) h)
-      ∙ ap (λ m. m ∷ drop (suc i) (take n ms)) (get_or-take n ms i noMonth h)
+      drop-cons (take n ms) i no_month (rw (length-take-le n ms fits) h)
+      ∙ ap (λ m. m ∷ drop (suc i) (take n ms)) (get_or-take n ms i no_month h)
 
-  used-before : (k : ℕ) → 0 < k → k ≤ n → drop (k - 1) (take n ms) ≡ get_or ms (k - 1) noMonth ∷ drop k (take n ms)
+  used-before : (k : ℕ) → 0 < k → k ≤ n → drop (k - 1) (take n ms) ≡ get_or ms (k - 1) no_month ∷ drop k (take n ms)
   used-before k z h =
       let s : suc (k - 1) ≡ k = omega arith in
-      used-cons (k - 1) (omega arith) ∙ ap (λ j. get_or ms (k - 1) noMonth ∷ drop j (take n ms)) s
+      used-cons (k - 1) (omega arith) ∙ ap (λ j. get_or ms (k - 1) no_month ∷ drop j (take n ms)) s
 
   pub none_left : drop n (take n ms) ≡ []
   none_left = ap (λ k. drop k (take n ms)) (sym (length-take-le n ms fits)) ∙ drop-length (take n ms)
 
-  pub highest-more : (k : ℕ) {p q : ℕ} → 0 < k → k ≤ n → p ≡ highestPrice (drop k (take n ms)) →
-      q ≡ max (get_or ms (k - 1) noMonth).aosmf p → q ≡ highestPrice (drop (k - 1) (take n ms))
-  unfolding highestPrice
+  pub highest-more : (k : ℕ) {p q : ℕ} → 0 < k → k ≤ n → p ≡ highest_price (drop k (take n ms)) →
+      q ≡ max (get_or ms (k - 1) no_month).aosmf p → q ≡ highest_price (drop (k - 1) (take n ms))
+  unfolding highest_price
   highest-more k z h ep eq = rw (used-before k z h, ← ep) eq
 
-  pub lowest-last : 0 < n → (get_or ms (n - 1) noMonth).aedm ≡ lowestOf (drop (n - 1) (take n ms))
-  unfolding lowestOf lowestVolume
+  pub lowest-last : 0 < n → (get_or ms (n - 1) no_month).aedm ≡ lowest_of (drop (n - 1) (take n ms))
+  unfolding lowest_of lowest_volume
   lowest-last z = rw (used-before n z (omega arith), none_left)
 
-  pub lowest-more : (k : ℕ) {a b : ℤ} → 0 < k → k < n → a ≡ lowestOf (drop k (take n ms)) →
-      b ≡ lower (get_or ms (k - 1) noMonth).aedm a → b ≡ lowestOf (drop (k - 1) (take n ms))
-  unfolding lowestOf lowestVolume
+  pub lowest-more : (k : ℕ) {a b : ℤ} → 0 < k → k < n → a ≡ lowest_of (drop k (take n ms)) →
+      b ≡ lower (get_or ms (k - 1) no_month).aedm a → b ≡ lowest_of (drop (k - 1) (take n ms))
+  unfolding lowest_of lowest_volume
   lowest-more k {a} z h ea eb =
-      let e : a ≡ lowestVolume (get_or ms k noMonth) (drop (suc k) (take n ms)) = rw (used-cons k h) at ea in
-      eb ∙ ap (lower (get_or ms (k - 1) noMonth).aedm) e ∙ sym (rw (used-before k z (omega arith), used-cons k h))
+      let e : a ≡ lowest_volume (get_or ms k no_month) (drop (suc k) (take n ms)) = rw (used-cons k h) at ea in
+      eb ∙ ap (lower (get_or ms (k - 1) no_month).aedm) e ∙ sym (rw (used-before k z (omega arith), used-cons k h))

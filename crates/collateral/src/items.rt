@@ -1,7 +1,7 @@
 // Internal: the items of collateral of a case that no cause refuses (01, 'Collateral'). A caller meets each `requires`.
 ghost use Rattle.std.specs.Prelude.{◌≡◌, true, cond, ◌&&◌, ◌≤◌, eqb, ltb};
-ghost use Rattle.rules.specs.Words.{isBook, entries};
-ghost use Rattle.rules.specs.Collateral.{generationMargin, margin, tradingDays, trading, imbalance, risk, yek, figuresOk, collateralOf};
+ghost use Rattle.rules.specs.Words.{is_book, entries};
+ghost use Rattle.rules.specs.Collateral.{generation_margin, margin, trading_days, trading, imbalance, risk, yek, figures_ok, collateral_of};
 
 use crate::months;
 use case_figures::Case;
@@ -10,7 +10,7 @@ use rules::Collateral;
 const FULL_MARGIN: u64 = 20000000;
 
 pub fn generation_margin(capacity: u64) -> u64
-    ensures { result ≡ generationMargin capacity }
+    ensures { result ≡ generation_margin capacity }
 {
     if 1000000 < capacity {
         return FULL_MARGIN;
@@ -35,7 +35,7 @@ pub fn margin_of(case: Case) -> u64
 // k: the latest days that each market chooses.
 pub fn trading_days(nonbusiness: u32) -> u32
     requires { nonbusiness ≤ 29 }
-    ensures { result ≡ tradingDays nonbusiness }
+    ensures { result ≡ trading_days nonbusiness }
 {
     if nonbusiness <= 2 { 3 } else { 1 + nonbusiness }
 }
@@ -49,8 +49,8 @@ pub fn quarters_of(holiday: u32, days: u32) -> u64
 
 // D × (20 + t) × q / 80.
 pub fn trading_of(book: &[u32], case: Case) -> u64
-    requires book_value { isBook book.now ≡ true }
-    requires case_value { figuresOk case ≡ true }
+    requires book_value { is_book book.now ≡ true }
+    requires case_value { figures_ok case ≡ true }
     ensures { result ≡ trading case (entries book.now) }
 {
     let days = trading_days(case.trading.nonbusiness);
@@ -62,7 +62,7 @@ pub fn trading_of(book: &[u32], case: Case) -> u64
 
 // RK × highest AOSMF × |lowest AEDM| / 100,000 where the lowest is negative; none for a party not responsible for its group.
 pub fn imbalance_of(case: Case) -> u64
-    requires { figuresOk case ≡ true }
+    requires { figures_ok case ≡ true }
     ensures { result ≡ imbalance case }
 {
     let group = case.group;
@@ -92,7 +92,7 @@ pub fn risk_of(case: Case) -> u64
 }
 
 pub fn yek_of(case: Case) -> u64
-    requires { figuresOk case ≡ true }
+    requires { figures_ok case ≡ true }
     ensures { result ≡ yek case }
 {
     let best = case.yek.best as u64;
@@ -103,9 +103,9 @@ pub fn yek_of(case: Case) -> u64
 
 // Each item, and the larger of margin and trading with the others as the total.
 pub fn collateral_of(book: &[u32], case: Case) -> Collateral
-    requires book_value { isBook book.now ≡ true }
-    requires case_value { figuresOk case ≡ true }
-    ensures { result ≡ collateralOf case (entries book.now) }
+    requires book_value { is_book book.now ≡ true }
+    requires case_value { figures_ok case ≡ true }
+    ensures { result ≡ collateral_of case (entries book.now) }
 {
     let margin = margin_of(case);
     let trading = trading_of(book, case);

@@ -1,6 +1,6 @@
 // Collateral: each item and the total of a case (document 01, 'Collateral').
 ghost use Rattle.std.specs.Prelude.{◌≡◌};
-ghost use Rattle.rules.specs.Collateral.{collateralCause, collateralAnswer};
+ghost use Rattle.rules.specs.Collateral.{collateral_cause, collateral_answer};
 
 use case_figures::Case;
 use rules::Collateral;
@@ -12,7 +12,7 @@ mod ranges;
 
 // The lowest cause that holds, or 0: no book, party, day, another figure.
 fn cause_of(book: &[u32], case: Case) -> u32
-    ensures { result ≡ collateralCause book.now case }
+    ensures { result ≡ collateral_cause book.now case }
 {
     let cause = book::party_day_cause(book, case.asked.party, case.asked.day);
     if cause != 0 {
@@ -26,7 +26,7 @@ fn cause_of(book: &[u32], case: Case) -> u32
 
 // Margin, trading, imbalance, risk, YEK and the total, or the cause.
 pub fn collateral(book: &[u32], case: Case) -> Collateral
-    ensures { result ≡ collateralAnswer book.now case }
+    ensures { result ≡ collateral_answer book.now case }
 {
     let cause = cause_of(book, case);
     if cause != 0 {

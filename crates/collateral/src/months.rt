@@ -2,8 +2,8 @@
 ghost use Rattle.std.specs.Prelude.{◌≡◌, ◌≤◌, take};
 ghost use Rattle.numbers.specs.Signed.{lower};
 ghost use Rattle.numbers.specs.Tests.{all};
-ghost use Rattle.rules.specs.Collateral.{highestPrice, monthOk};
-ghost use Rattle.collateral.specs.Months.{lowestOf};
+ghost use Rattle.rules.specs.Collateral.{highest_price, month_ok};
+ghost use Rattle.collateral.specs.Months.{lowest_of};
 
 use case_figures::Month;
 
@@ -15,14 +15,14 @@ pub fn lower_of(a: i64, b: i64) -> i64
 }
 
 pub fn month_ok(month: Month) -> bool
-    ensures { result ≡ monthOk month }
+    ensures { result ≡ month_ok month }
 {
     (month.aosmf <= 1000000) & (numbers::magnitude(month.aedm) <= 14900000000)
 }
 
 // A month answer is held to its ranges only if it is used.
 pub fn months_ok(months: [Month; 3], used: u32) -> bool
-    ensures { result ≡ all monthOk (take used months) }
+    ensures { result ≡ all month_ok (take used months) }
 {
     let latest = months[0];
     let second = months[1];
@@ -35,7 +35,7 @@ pub fn months_ok(months: [Month; 3], used: u32) -> bool
 // The highest average price of the first n month answers.
 pub fn highest_price(months: [Month; 3], used: u32) -> u64
     requires { used ≤ 3 }
-    ensures { result ≡ highestPrice (take used months) }
+    ensures { result ≡ highest_price (take used months) }
 {
     let mut price: u64 = 0;
     let mut i = used as usize;
@@ -50,7 +50,7 @@ pub fn highest_price(months: [Month; 3], used: u32) -> u64
 // The lowest volume of the first n month answers, 0 where n is 0.
 pub fn lowest_volume(months: [Month; 3], used: u32) -> i64
     requires { used ≤ 3 }
-    ensures { result ≡ lowestOf (take used months) }
+    ensures { result ≡ lowest_of (take used months) }
 {
     if used == 0 {
         return 0;

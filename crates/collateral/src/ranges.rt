@@ -1,13 +1,13 @@
 // The ranges of a case's figures (01, 'Collateral').
 ghost use Rattle.std.specs.Prelude.{◌≡◌};
-ghost use Rattle.rules.specs.Collateral.{figuresOk};
+ghost use Rattle.rules.specs.Collateral.{figures_ok};
 
 use crate::months;
 use case_figures::Case;
 
 // All figures are held to their ranges, month answers only if used.
 pub fn figures_ok(case: Case) -> bool
-    ensures { result ≡ figuresOk case }
+    ensures { result ≡ figures_ok case }
 {
     let group = case.group;
     let answers = group.months;

@@ -3,8 +3,8 @@ use Rattle.std.specs.Prelude.{[], ◌∷◌, ℕ, ℤ}
 use Rattle.case_figures.specs.declared.Month.{Month}
 use Rattle.case_figures.specs.declared.Case.{Case}
 
-abbrev pub monthOf : ℕ → ℤ → Month
-monthOf aosmf aedm = record { aosmf = aosmf; aedm = aedm }
+abbrev pub month_of : ℕ → ℤ → Month
+month_of aosmf aedm = record { aosmf = aosmf; aedm = aedm }
 
 -- party, day; licence, capacity; h, before a holiday, t; responsible, three months (AOSMF, AEDM), latest first, n, RK, RT; YT, T, M
 abbrev pub case_of : ℕ → ℕ → ℕ → ℕ → ℕ → ℕ → ℕ → ℕ → ℕ → ℤ → ℕ → ℤ → ℕ → ℤ → ℕ → ℕ → ℕ → ℕ → ℕ → ℕ → Case
@@ -16,7 +16,7 @@ case_of party day licence capacity nonbusiness holiday defaults responsible aosm
       group =
           record {
             responsible = responsible;
-            months = monthOf aosmf1 aedm1 ∷ monthOf aosmf2 aedm2 ∷ monthOf aosmf3 aedm3 ∷ [];
+            months = month_of aosmf1 aedm1 ∷ month_of aosmf2 aedm2 ∷ month_of aosmf3 aedm3 ∷ [];
             used = used;
             rk = rk;
             rt = rt;

@@ -1,6 +1,6 @@
 // A collateral case out of its figures, in the order of the C call (document 01, 'Collateral').
 ghost use Rattle.std.specs.Prelude.{◌≡◌, [], ◌∷◌};
-ghost use Rattle.collateral_case.specs.Cases.{monthOf, case_of};
+ghost use Rattle.collateral_case.specs.Cases.{month_of, case_of};
 
 use case_figures::{Asked, Case, Group, Margin, Month, Trading, Yek};
 
@@ -15,7 +15,7 @@ fn trading_of(nonbusiness: u32, holiday: u32, defaults: u32) -> Trading
 }
 
 fn month_of(aosmf: u64, aedm: i64) -> Month
-    ensures { result ≡ monthOf aosmf aedm }
+    ensures { result ≡ month_of aosmf aedm }
 {
     Month { aosmf, aedm }
 }
@@ -46,7 +46,7 @@ fn months_of(
     aosmf3: u64,
     aedm3: i64,
 ) -> [Month; 3]
-    ensures { result ≡ monthOf aosmf1 aedm1 ∷ monthOf aosmf2 aedm2 ∷ monthOf aosmf3 aedm3 ∷ [] }
+    ensures { result ≡ month_of aosmf1 aedm1 ∷ month_of aosmf2 aedm2 ∷ month_of aosmf3 aedm3 ∷ [] }
 {
     [
         month_of(aosmf1, aedm1),

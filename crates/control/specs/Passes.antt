@@ -2,13 +2,13 @@
 -- Only the contracts of internal functions cite these; the laws tie them to rules/specs/Control.
 use Rattle.std.specs.Prelude.{List, ℕ}
 use Rattle.numbers.specs.Sums.{count}
-use Rattle.rules.specs.Words.{entries, coefficientOf, toleranceOf, laid}
-use Rattle.rules.specs.Control.{Parties, isToCancel, cancelOf, detectedParties}
+use Rattle.rules.specs.Words.{entries, coefficient_of, tolerance_of, laid}
+use Rattle.rules.specs.Control.{Parties, is_to_cancel, cancel_of, detected_parties}
 use Rattle.control.specs.declared.passes.Passed.{Passed}
 
 -- the words after a pass, and its counts
-unfoldable pub cancelledWords : Parties → ℕ → List ℕ → List ℕ
-cancelledWords who d ws = laid (coefficientOf ws) (toleranceOf ws) (cancelOf who d (entries ws)) ws
+unfoldable pub cancelled_words : Parties → ℕ → List ℕ → List ℕ
+cancelled_words who d ws = laid (coefficient_of ws) (tolerance_of ws) (cancel_of who d (entries ws)) ws
 
-unfoldable pub passOf : Parties → ℕ → List ℕ → Passed
-passOf who d ws = record { parties = detectedParties who; entries = count (isToCancel who d) (entries ws) }
+unfoldable pub pass_of : Parties → ℕ → List ℕ → Passed
+pass_of who d ws = record { parties = detected_parties who; entries = count (is_to_cancel who d) (entries ws) }

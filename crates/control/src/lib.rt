@@ -1,6 +1,6 @@
 // Control of a day (document 01, 'Control of a day').
 ghost use Rattle.std.specs.Prelude.{◌≡◌};
-ghost use Rattle.rules.specs.Calls.{causeOf, wordsAfter, controlAnswer};
+ghost use Rattle.rules.specs.Calls.{cause_of, words_after, control_answer};
 ghost use Rattle.rules.specs.Calls as calls;
 
 use rules::{Controlled, causes};
@@ -8,7 +8,7 @@ use rules::{Controlled, causes};
 mod passes;
 
 fn control_cause(book: &[u32], day: u32) -> u32
-    ensures { result ≡ causeOf book.now (calls.control day) }
+    ensures { result ≡ cause_of book.now (calls.control day) }
 {
     if !book::is_book(book) {
         return causes::NOT_A_BOOK;
@@ -28,9 +28,9 @@ fn control_cause(book: &[u32], day: u32) -> u32
 
 // First pass: every party, by the book at entry. Second pass: the buyers of repeated pairs, by the book after the first.
 fn run(book: &mut [u32], day: u32) -> Controlled
-    requires { causeOf book.old (calls.control day) ≡ 0 }
-    ensures answer { result ≡ controlAnswer book.old day }
-    ensures words { book.new ≡ wordsAfter book.old (calls.control day) }
+    requires { cause_of book.old (calls.control day) ≡ 0 }
+    ensures answer { result ≡ control_answer book.old day }
+    ensures words { book.new ≡ words_after book.old (calls.control day) }
 {
     let first = passes::run_pass(book, day, false);
     let second = passes::run_pass(book, day, true);
@@ -45,8 +45,8 @@ fn run(book: &mut [u32], day: u32) -> Controlled
 
 // Cancels the bilateral sales of detected parties and closes the day.
 pub fn control(book: &mut [u32], day: u32) -> Controlled
-    ensures answer { result ≡ controlAnswer book.old day }
-    ensures words { book.new ≡ wordsAfter book.old (calls.control day) }
+    ensures answer { result ≡ control_answer book.old day }
+    ensures words { book.new ≡ words_after book.old (calls.control day) }
 {
     let cause = control_cause(book, day);
     if cause != 0 {

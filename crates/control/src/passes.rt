@@ -1,13 +1,13 @@
 // Internal: one pass of a control over a checked book, and the mark. A caller meets each `requires`.
 ghost use Rattle.std.specs.Prelude.{◌≡◌, true, ◌+◌, ◌<◌, ◌≤◌, length};
 ghost use Rattle.numbers.specs.Sums.{count};
-ghost use Rattle.rules.specs.Entry.{key_of, markType, lastParty, lastDay, recordIn};
-ghost use Rattle.rules.specs.Words.{isBook, entries, countOf, roomIn};
+ghost use Rattle.rules.specs.Entry.{key_of, mark_type, last_party, last_day, record_in};
+ghost use Rattle.rules.specs.Words.{is_book, entries, count_of, room_in};
 ghost use Rattle.rules.specs.Stores.{posted};
-ghost use Rattle.rules.specs.Control.{isToCancel};
+ghost use Rattle.rules.specs.Control.{is_to_cancel};
 ghost use Rattle.repeated_pairs.specs.Flags.{flagged};
-ghost use Rattle.detection.specs.Tables.{ofPass};
-ghost use Rattle.control.specs.Passes.{cancelledWords, passOf};
+ghost use Rattle.detection.specs.Tables.{of_pass};
+ghost use Rattle.control.specs.Passes.{cancelled_words, pass_of};
 
 use repeated_pairs::parties;
 use repeated_pairs::parties::Flags;
@@ -24,8 +24,8 @@ pub struct Passed {
 
 // A standing bilateral sale of the day, counterparty above 0, of a flagged party.
 fn is_to_cancel(e: Entry, day: u32, flags: &Flags) -> bool
-    requires { e.key.party ≤ lastParty }
-    ensures { result ≡ isToCancel (flagged flags.now) day (recordIn e) }
+    requires { e.key.party ≤ last_party }
+    ensures { result ≡ is_to_cancel (flagged flags.now) day (record_in e) }
 {
     (e.status == STANDING)
         & (e.key.day == day)
@@ -36,9 +36,9 @@ fn is_to_cancel(e: Entry, day: u32, flags: &Flags) -> bool
 // The sales of flagged parties become cancelled, and are counted. The test has a use beside the branch, so that the compiler
 // makes one branch of it and not one of each part: those on type and day are mispredicted.
 fn cancel(book: &mut [u32], day: u32, flags: &Flags) -> u32
-    requires { isBook book.old ≡ true }
-    ensures cancelled { result ≡ count (isToCancel (flagged flags.now) day) (entries book.old) }
-    ensures words { book.new ≡ cancelledWords (flagged flags.now) day book.old }
+    requires { is_book book.old ≡ true }
+    ensures cancelled { result ≡ count (is_to_cancel (flagged flags.now) day) (entries book.old) }
+    ensures words { book.new ≡ cancelled_words (flagged flags.now) day book.old }
 {
     let count = words::count_of(book) as usize;
     let mut n = 0;
@@ -57,9 +57,9 @@ fn cancel(book: &mut [u32], day: u32, flags: &Flags) -> u32
 
 // One pass by a table: its parties are counted, and their sales cancelled together.
 fn pass(book: &mut [u32], day: u32, second: bool) -> Passed
-    requires { isBook book.old ≡ true }
-    ensures counts { result ≡ passOf (ofPass second book.old day) day book.old }
-    ensures words { book.new ≡ cancelledWords (ofPass second book.old day) day book.old }
+    requires { is_book book.old ≡ true }
+    ensures counts { result ≡ pass_of (of_pass second book.old day) day book.old }
+    ensures words { book.new ≡ cancelled_words (of_pass second book.old day) day book.old }
 {
     let mut flags = [false; NUMBERS];
     detection::flag_parties(book, day, second, &mut flags);
@@ -70,9 +70,9 @@ fn pass(book: &mut [u32], day: u32, second: bool) -> Passed
 
 // A pass. One that has nobody counts none, cancels nothing and needs no table.
 pub fn run_pass(book: &mut [u32], day: u32, second: bool) -> Passed
-    requires { isBook book.old ≡ true }
-    ensures counts { result ≡ passOf (ofPass second book.old day) day book.old }
-    ensures words { book.new ≡ cancelledWords (ofPass second book.old day) day book.old }
+    requires { is_book book.old ≡ true }
+    ensures counts { result ≡ pass_of (of_pass second book.old day) day book.old }
+    ensures words { book.new ≡ cancelled_words (of_pass second book.old day) day book.old }
 {
     if empty_passes::has_nobody(book, day, second) {
         return Passed {
@@ -85,8 +85,8 @@ pub fn run_pass(book: &mut [u32], day: u32, second: bool) -> Passed
 
 // The mark of a day takes the next place.
 pub fn append_mark(book: &mut [u32], day: u32)
-    requires { (countOf book.old < roomIn (length book.old)) × (day ≤ lastDay) }
-    ensures { book.new ≡ posted book.old (key_of 0 day markType 0) 0 }
+    requires { (count_of book.old < room_in (length book.old)) × (day ≤ last_day) }
+    ensures { book.new ≡ posted book.old (key_of 0 day mark_type 0) 0 }
 {
     let mark = Key {
         party: 0,

@@ -13,61 +13,61 @@ use Rattle.numbers.specs.Tests.{all}
 use Rattle.numbers.proofs.TestLaws.{all_append}
 use Rattle.numbers.proofs.CauseLaws.{clear-all, unless-zero, done-else}
 use Rattle.rules.specs.Entry.{legal}
-use Rattle.rules.specs.Words.{word, isBook, entries, countOf, roomIn}
-use Rattle.rules.specs.DayFile.{items, lines_of, isFile}
-use Rattle.rules.specs.Calls.{file, figuresOn, changed, causeOf, figuresAt, wordsAfter, fileAnswer}
+use Rattle.rules.specs.Words.{word, is_book, entries, count_of, room_in}
+use Rattle.rules.specs.DayFile.{items, lines_of, is_file}
+use Rattle.rules.specs.Calls.{file, figures_on, changed, cause_of, figures_at, words_after, file_answer}
 use Rattle.rules.specs.declared.FileRead.{FileRead}
 use Rattle.rules.proofs.WordLaws.{book-facts, room-words}
 use Rattle.rules.proofs.CancelLaws.{lines-legal}
 use Rattle.rules.proofs.CallLaws.{FilePasses, file-passes, file-cause, refused-words, refused-figures, done-figures, done-words}
-use Rattle.file_check.specs.Check.{nonePosted}
-use Rattle.dayfile.specs.Stored.{storedFrom}
+use Rattle.file_check.specs.Check.{none_posted}
+use Rattle.dayfile.specs.Stored.{stored_from}
 use Rattle.dayfile.proofs.PostLaws.{posted-all}
 
 abbrev Answers : FileRead → List ℕ → List ℕ → List ℕ → Type 0
-Answers r vs ws bs = (r ≡ fileAnswer ws bs) × (vs ≡ wordsAfter ws (file bs))
+Answers r vs ws bs = (r ≡ file_answer ws bs) × (vs ≡ words_after ws (file bs))
 
 -- a file that is refused is not read
-refused : (ws bs : List ℕ) (k : ℕ) → causeOf ws (file bs) ≡ suc k → Answers (nonePosted (suc k)) ws ws bs
+refused : (ws bs : List ℕ) (k : ℕ) → cause_of ws (file bs) ≡ suc k → Answers (none_posted (suc k)) ws ws bs
 refused ws bs k e =
-    let n : causeOf ws (file bs) ≡ 0 → ⊥ = λ z. suc-ne-zero k (sym e ∙ z) in
+    let n : cause_of ws (file bs) ≡ 0 → ⊥ = λ z. suc-ne-zero k (sym e ∙ z) in
     (rw (refused-figures ws (file bs) n, e), sym (refused-words ws (file bs) n))
 
-pub not-a-book : (ws bs : List ℕ) → isBook ws ≡ false → Answers (nonePosted 1) ws ws bs
+pub not-a-book : (ws bs : List ℕ) → is_book ws ≡ false → Answers (none_posted 1) ws ws bs
 not-a-book ws bs b = refused ws bs 0 (rw (file-cause, b))
 
-pub not-a-file : (ws bs : List ℕ) → isBook ws ≡ true → isFile bs ≡ false → Answers (nonePosted 2) ws ws bs
+pub not-a-file : (ws bs : List ℕ) → is_book ws ≡ true → is_file bs ≡ false → Answers (none_posted 2) ws ws bs
 not-a-file ws bs b f = refused ws bs 1 (rw (file-cause, b, f))
 
-module _ (ws bs : List ℕ) {r : FileRead} (e : r ≡ fileAnswer ws bs) where
-  cause-is : r.answer ≡ causeOf ws (file bs)
+module _ (ws bs : List ℕ) {r : FileRead} (e : r ≡ file_answer ws bs) where
+  cause-is : r.answer ≡ cause_of ws (file bs)
   cause-is = ap (λ x. x.answer) e
 
-  pub left-as-was : (r.answer ≡ 0 → ⊥) → ws ≡ wordsAfter ws (file bs)
+  pub left-as-was : (r.answer ≡ 0 → ⊥) → ws ≡ words_after ws (file bs)
   left-as-was n = sym (refused-words ws (file bs) (λ z. n (cause-is ∙ z)))
 
   module _ (z : r.answer ≡ 0) where
-    done : causeOf ws (file bs) ≡ 0
+    done : cause_of ws (file bs) ≡ 0
     done = sym cause-is ∙ z
 
     pub done-passes : FilePasses ws bs
     done-passes = file-passes ws bs done
 
     pub done-posted : r.posted ≡ length (lines_of (items bs))
-    unfolding figuresOn
+    unfolding figures_on
     done-posted = ap (λ x. x.posted) e ∙ ap (λ f. f.lines) (done-figures ws (file bs) done)
 
     pub done-legal : all legal (lines_of (items bs)) ≡ true
     done-legal = lines-legal (entries ws) (items bs) done-passes.faultless
 
-    pub done-within : 3 + 5 * (countOf ws + length (lines_of (items bs))) ≤ length ws
+    pub done-within : 3 + 5 * (count_of ws + length (lines_of (items bs))) ≤ length ws
     done-within = room-words _ (length ws) (book-facts ws done-passes.is-book).long done-passes.room
 
     -- the count is a number of entries
-    pub done-count : countOf ws + r.posted ≤ 3072
+    pub done-count : count_of ws + r.posted ≤ 3072
     done-count = rw done-posted (omega (arith, done-passes.room))
 
-    pub done-stores : {vs : List ℕ} → vs ≡ storedFrom ws (3 + 5 * countOf ws) (items bs) → set vs 0 (word 6 (countOf ws + r.posted)) ≡ wordsAfter ws (file bs)
+    pub done-stores : {vs : List ℕ} → vs ≡ stored_from ws (3 + 5 * count_of ws) (items bs) → set vs 0 (word 6 (count_of ws + r.posted)) ≡ words_after ws (file bs)
     unfolding changed
     done-stores w =
         rw (w, done-posted, posted-all ws (items bs) done-passes.is-book done-passes.room) (sym (done-words ws (file bs) done))

@@ -1,7 +1,7 @@
 // The day file: lines posted into a book, all or none (document 01, 'Day file').
 ghost use Rattle.std.specs.Prelude.{◌≡◌};
-ghost use Rattle.rules.specs.DayFile.{isFile};
-ghost use Rattle.rules.specs.Calls.{wordsAfter, fileAnswer};
+ghost use Rattle.rules.specs.DayFile.{is_file};
+ghost use Rattle.rules.specs.Calls.{words_after, file_answer};
 ghost use Rattle.rules.specs.Calls as calls;
 
 use file_walk::walk;
@@ -14,7 +14,7 @@ mod post;
 
 // Whether the bytes are a day file: their length, kinds, spare and status bits, and where they end.
 pub fn is_file(file: &[u8]) -> bool
-    ensures { result ≡ isFile file.now }
+    ensures { result ≡ is_file file.now }
 {
     let size = file.len();
     if size > MOST_FILE_BYTES {
@@ -28,8 +28,8 @@ pub fn is_file(file: &[u8]) -> bool
 
 // Posts the lines of a file into a book: all of them or none.
 pub fn read_file(book: &mut [u32], file: &[u8]) -> FileRead
-    ensures answer { result ≡ fileAnswer book.old file.now }
-    ensures words { book.new ≡ wordsAfter book.old (calls.file file.now) }
+    ensures answer { result ≡ file_answer book.old file.now }
+    ensures words { book.new ≡ words_after book.old (calls.file file.now) }
 {
     if !book::is_book(book) {
         return file_check::refused(NOT_A_BOOK);

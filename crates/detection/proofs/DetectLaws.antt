@@ -9,51 +9,51 @@ use lib.Dec.{ltb}
 use lib.ListN.{replicate, get_or-replicate}
 use borrow.Author.Tests.{ltb-true, ltb-false}
 use Rattle.numbers.proofs.TestLaws.{bool_cases}
-use Rattle.rules.specs.Entry.{partyOk, partyPlaces}
-use Rattle.rules.specs.Words.{isBook, entries, countOf, coefficientOf, toleranceOf}
-use Rattle.rules.specs.Control.{detectedIn}
+use Rattle.rules.specs.Entry.{party_ok, party_places}
+use Rattle.rules.specs.Words.{is_book, entries, count_of, coefficient_of, tolerance_of}
+use Rattle.rules.specs.Control.{detected_in}
 use Rattle.rules.proofs.WordLaws.{book-facts, within-true}
 use Rattle.cells.specs.Cells.{AtMost}
 use Rattle.cells.proofs.ScanLaws.{table_to}
-use Rattle.balance_formulas.specs.Bounded.{mostSum}
-use Rattle.repeated_pairs.specs.Flags.{flagged, noFlags}
-use Rattle.detection.specs.Tables.{tableCells, table_of, detectedAmong, checked, ofPass, Flaggable}
+use Rattle.balance_formulas.specs.Bounded.{most_sum}
+use Rattle.repeated_pairs.specs.Flags.{flagged, no_flags}
+use Rattle.detection.specs.Tables.{table_cells, table_of, detected_among, checked, of_pass, Flaggable}
 use Rattle.detection.proofs.BelowLaws.{no-party}
 use Rattle.detection.proofs.TableLaws.{day-limited, length-table, ahead-is}
 
-module _ (ws : List ℕ) (b : isBook ws ≡ true) (d : ℕ) where
-  table-within : AtMost mostSum (table_of d (entries ws))
+module _ (ws : List ℕ) (b : is_book ws ≡ true) (d : ℕ) where
+  table-within : AtMost most_sum (table_of d (entries ws))
   unfolding table_of entries
-  table-within = table_to ws b (day-limited d) tableCells (countOf ws) (le_refl (countOf ws))
+  table-within = table_to ws b (day-limited d) table_cells (count_of ws) (le_refl (count_of ws))
 
-  pub flaggable : (cells : List ℕ) (flags : List Bool) → cells ≡ table_of d (entries ws) → flags ≡ noFlags → Flaggable cells (coefficientOf ws) (toleranceOf ws) flags
+  pub flaggable : (cells : List ℕ) (flags : List Bool) → cells ≡ table_of d (entries ws) → flags ≡ no_flags → Flaggable cells (coefficient_of ws) (tolerance_of ws) flags
   flaggable cells flags e n =
       let f = book-facts ws b in
       rw e (record { long = length-table d (entries ws); within = table-within; coefficient = f.coefficient; tolerance = f.tolerance; none = n })
 
-  pub table-detects : (cells : List ℕ) (among : List Bool) → cells ≡ table_of d (entries ws) → detectedAmong cells (coefficientOf ws) (toleranceOf ws) among ≡ checked ws d among
-  unfolding detectedAmong checked detectedIn
+  pub table-detects : (cells : List ℕ) (among : List Bool) → cells ≡ table_of d (entries ws) → detected_among cells (coefficient_of ws) (tolerance_of ws) among ≡ checked ws d among
+  unfolding detected_among checked detected_in
   table-detects cells among e = fun_ext at
     where
-      at : (p : ℕ) → detectedAmong cells (coefficientOf ws) (toleranceOf ws) among p ≡ checked ws d among p
+      at : (p : ℕ) → detected_among cells (coefficient_of ws) (tolerance_of ws) among p ≡ checked ws d among p
       at p =
-          elim (bool_cases (partyOk p)) [
-            | inl k ↦ let r = within-true 1 999 p k in rw (e, ahead-is d (entries ws) p r.0 r.1 (coefficientOf ws) (toleranceOf ws))
+          elim (bool_cases (party_ok p)) [
+            | inl k ↦ let r = within-true 1 999 p k in rw (e, ahead-is d (entries ws) p r.0 r.1 (coefficient_of ws) (tolerance_of ws))
             | inr k ↦ rw k
           ]
 
 -- the first pass asks everyone
-pub asked : {among : List Bool} → among ≡ replicate partyPlaces true → (p : ℕ) → p < partyPlaces → flagged among p ≡ true
-asked q p h = rw q (get_or-replicate partyPlaces p true false h)
+pub asked : {among : List Bool} → among ≡ replicate party_places true → (p : ℕ) → p < party_places → flagged among p ≡ true
+asked q p h = rw q (get_or-replicate party_places p true false h)
 
 module _ (ws : List ℕ) (d : ℕ) where
-  pub all_asked : {among : List Bool} → among ≡ replicate partyPlaces true → checked ws d among ≡ ofPass false ws d
-  unfolding checked ofPass detectedIn
+  pub all_asked : {among : List Bool} → among ≡ replicate party_places true → checked ws d among ≡ of_pass false ws d
+  unfolding checked of_pass detected_in
   all_asked {among} q = fun_ext at
     where
-      at : (p : ℕ) → checked ws d among p ≡ ofPass false ws d p
+      at : (p : ℕ) → checked ws d among p ≡ of_pass false ws d p
       at p =
-          elim (bool_cases (ltb p partyPlaces)) [
-            | inl l ↦ rw (asked q p (ltb-true p partyPlaces l))
-            | inr l ↦ rw (no-party p (ltb-false p partyPlaces l)) (and-false (flagged among p))
+          elim (bool_cases (ltb p party_places)) [
+            | inl l ↦ rw (asked q p (ltb-true p party_places l))
+            | inr l ↦ rw (no-party p (ltb-false p party_places l)) (and-false (flagged among p))
           ]

@@ -1,13 +1,13 @@
 // Internal: what the day-ahead balance reads of every party's day, by one scan of a checked book, and the parties detected
 // by it. A caller meets each `requires`.
 ghost use Rattle.std.specs.Prelude.{◌≡◌, true, cond, ◌+◌, ◌<◌, ◌≤◌, eqb, length, get_or};
-ghost use Rattle.rules.specs.Entry.{key, legal, bilateral, lastParty, recordIn};
-ghost use Rattle.rules.specs.Words.{isBook, entries, mostCoefficient, mostTolerance};
-ghost use Rattle.rules.specs.Balance.{isDetected};
-ghost use Rattle.cells.specs.Cells.{addTo, added, blank, AtMost};
-ghost use Rattle.balance_formulas.specs.Bounded.{mostSum};
-ghost use Rattle.repeated_pairs.specs.Flags.{flagged, noFlags};
-ghost use Rattle.detection.specs.Tables.{isSaleType, isReadType, lastType, side_of, isRead, ownAmount, tableCells, dayCells, table_of, aheadAt, Flaggable, detectedAmong, checked};
+ghost use Rattle.rules.specs.Entry.{key, legal, bilateral, last_party, record_in};
+ghost use Rattle.rules.specs.Words.{is_book, entries, most_coefficient, most_tolerance};
+ghost use Rattle.rules.specs.Balance.{is_detected};
+ghost use Rattle.cells.specs.Cells.{add_to, added, blank, AtMost};
+ghost use Rattle.balance_formulas.specs.Bounded.{most_sum};
+ghost use Rattle.repeated_pairs.specs.Flags.{flagged, no_flags};
+ghost use Rattle.detection.specs.Tables.{is_sale_type, is_read_type, last_type, side_of, is_read, own_amount, table_cells, day_cells, table_of, ahead_at, Flaggable, detected_among, checked};
 
 use repeated_pairs::parties::Flags;
 use rules::Entry;
@@ -51,22 +51,22 @@ pub type Table = [u64; CELLS];
 
 // The sales of the day-ahead balance (Article 7).
 pub fn is_sale(entry_type: u32) -> bool
-    ensures { result ≡ isSaleType entry_type }
+    ensures { result ≡ is_sale_type entry_type }
 {
     (entry_type == 1) | (entry_type == 3) | (entry_type == 4) | (entry_type == BILATERAL)
 }
 
 // Whether that balance reads a type.
 fn is_read_type(entry_type: u32) -> bool
-    requires { entry_type ≤ lastType }
-    ensures { result ≡ isReadType entry_type }
+    requires { entry_type ≤ last_type }
+    ensures { result ≡ is_read_type entry_type }
 {
     (READ_TYPES >> entry_type) % 2 == 1
 }
 
 // The cell of a type among its party's.
 fn side_of(entry_type: u32) -> usize
-    requires { entry_type ≤ lastType }
+    requires { entry_type ≤ last_type }
     ensures { result ≡ side_of entry_type }
 {
     ((SIDES >> (2 * entry_type)) % 4) as usize
@@ -74,8 +74,8 @@ fn side_of(entry_type: u32) -> usize
 
 // Whether an entry is read: standing, of the day, of such a type, no export.
 fn is_read(e: Entry, day: u32) -> bool
-    requires { (key (recordIn e)).type ≤ lastType }
-    ensures { result ≡ isRead day (recordIn e).label }
+    requires { (key (record_in e)).type ≤ last_type }
+    ensures { result ≡ is_read day (record_in e).label }
 {
     (e.status == STANDING)
         & (e.key.day == day)
@@ -86,15 +86,15 @@ fn is_read(e: Entry, day: u32) -> bool
 // What an entry adds to its party's cell: 0 where it is not read. A branch on an entry's type, day or status would be
 // mispredicted.
 fn read_amount(e: Entry, day: u32) -> u64
-    requires { (key (recordIn e)).type ≤ lastType }
-    ensures { result ≡ ownAmount day (recordIn e) }
+    requires { (key (record_in e)).type ≤ last_type }
+    ensures { result ≡ own_amount day (record_in e) }
 {
     if is_read(e, day) { e.amount } else { 0 }
 }
 
 // And to its counterparty's cover: 0 where it is no bilateral sale.
 fn sold_amount(e: Entry, amount: u64) -> u64
-    ensures { result ≡ cond (eqb (key (recordIn e)).type bilateral) amount 0 }
+    ensures { result ≡ cond (eqb (key (record_in e)).type bilateral) amount 0 }
 {
     if e.key.entry_type == BILATERAL {
         amount
@@ -104,17 +104,17 @@ fn sold_amount(e: Entry, amount: u64) -> u64
 }
 
 fn add_to(table: &mut Table, cell: usize, amount: u64)
-    requires { (cell < tableCells) × (get_or table.old cell 0 + amount < 18446744073709551616) }
-    ensures { table.new ≡ addTo table.old cell amount }
+    requires { (cell < table_cells) × (get_or table.old cell 0 + amount < 18446744073709551616) }
+    ensures { table.new ≡ add_to table.old cell amount }
 {
     table[cell] = table[cell] + amount;
 }
 
 // An entry's amount goes to its party's cell and, of a bilateral sale, to its counterparty's cover.
 fn add_entry(table: &mut Table, e: Entry, day: u32)
-    requires e_value { legal (recordIn e) ≡ true }
-    requires at_most { AtMost mostSum table.old }
-    ensures { table.new ≡ added (dayCells day) (recordIn e) table.old }
+    requires e_value { legal (record_in e) ≡ true }
+    requires at_most { AtMost most_sum table.old }
+    ensures { table.new ≡ added (day_cells day) (record_in e) table.old }
 {
     let side = side_of(e.key.entry_type);
     let amount = read_amount(e, day);
@@ -129,8 +129,8 @@ fn add_entry(table: &mut Table, e: Entry, day: u32)
 
 // One scan of the book fills the table.
 fn fill(book: &[u32], day: u32, table: &mut Table)
-    requires book_value { isBook book.now ≡ true }
-    requires table_value { table.old ≡ blank tableCells }
+    requires book_value { is_book book.now ≡ true }
+    requires table_value { table.old ≡ blank table_cells }
     ensures { table.new ≡ table_of day (entries book.now) }
 {
     let count = words::count_of(book) as usize;
@@ -144,10 +144,10 @@ fn fill(book: &[u32], day: u32, table: &mut Table)
 
 // Whether a party's day-ahead balance is detected: above zero. Without a sale it is not.
 fn is_detected(table: &Table, party: usize, coefficient: u32, tolerance: u32) -> bool
-    requires party_le_last_party { (party ≤ lastParty) × (length table.now ≡ tableCells) }
-    requires at_most { AtMost mostSum table.now }
-    requires coefficient_le_most_coefficient { (coefficient ≤ mostCoefficient) × (tolerance ≤ mostTolerance) }
-    ensures { result ≡ isDetected (aheadAt coefficient tolerance table.now party) }
+    requires party_le_last_party { (party ≤ last_party) × (length table.now ≡ table_cells) }
+    requires at_most { AtMost most_sum table.now }
+    requires coefficient_le_most_coefficient { (coefficient ≤ most_coefficient) × (tolerance ≤ most_tolerance) }
+    ensures { result ≡ is_detected (ahead_at coefficient tolerance table.now party) }
 {
     let at = PARTY_CELLS * party;
     let sales = table[at + SALES];
@@ -161,7 +161,7 @@ fn is_detected(table: &Table, party: usize, coefficient: u32, tolerance: u32) ->
 // Flags the detected ones among some parties.
 fn flag_detected(table: &Table, coefficient: u32, tolerance: u32, among: &Flags, flags: &mut Flags)
     requires { Flaggable table.now coefficient tolerance flags.old }
-    ensures { flagged flags.new ≡ detectedAmong table.now coefficient tolerance among.now }
+    ensures { flagged flags.new ≡ detected_among table.now coefficient tolerance among.now }
 {
     let mut p = 1;
     while p < NUMBERS {
@@ -174,8 +174,8 @@ fn flag_detected(table: &Table, coefficient: u32, tolerance: u32, among: &Flags,
 
 // Flags the parties among some whose day-ahead balance of the day is detected.
 pub fn detect(book: &[u32], day: u32, among: &Flags, flags: &mut Flags)
-    requires book_value { isBook book.now ≡ true }
-    requires flags_value { flags.old ≡ noFlags }
+    requires book_value { is_book book.now ≡ true }
+    requires flags_value { flags.old ≡ no_flags }
     ensures { flagged flags.new ≡ checked book.now day among.now }
 {
     let mut table = [0u64; CELLS];

@@ -10,31 +10,31 @@ use borrow.Author.Tests.{eqb-true}
 use Rattle.numbers.specs.Sums.{total}
 use Rattle.numbers.specs.Tests.{every, any}
 use Rattle.numbers.proofs.TestLaws.{bool_cases, or-false-split, every_holds, holds-every}
-use Rattle.rules.specs.Entry.{Record, key, isStanding, isExport, partyOk}
-use Rattle.rules.specs.Words.{entries, coefficientOf, toleranceOf}
-use Rattle.rules.specs.Balance.{dayAhead, counted, sum_of, boughtBy, tally_of, saleSide, coverSide, balanceOf, balance, isDetected}
-use Rattle.rules.specs.Control.{detectedIn, isRepeatedBuyer}
-use Rattle.rules.proofs.SumOrder.{forTests}
+use Rattle.rules.specs.Entry.{Record, key, is_standing, is_export, party_ok}
+use Rattle.rules.specs.Words.{entries, coefficient_of, tolerance_of}
+use Rattle.rules.specs.Balance.{day_ahead, counted, sum_of, bought_by, tally_of, sale_side, cover_side, balance_of, balance, is_detected}
+use Rattle.rules.specs.Control.{detected_in, is_repeated_buyer}
+use Rattle.rules.proofs.SumOrder.{for_tests}
 use Rattle.cells.specs.Cells.{over}
-use Rattle.detection.specs.Tables.{isSaleType, ofPass}
+use Rattle.detection.specs.Tables.{is_sale_type, of_pass}
 use Rattle.detection.proofs.BelowLaws.{not-above}
 use Rattle.repeated_pairs.proofs.PairLaws.{any_none}
-use Rattle.empty_passes.specs.Sought.{nobody, isCancelledOn, isSaleOn, isSought, seen}
+use Rattle.empty_passes.specs.Sought.{nobody, is_cancelled_on, is_sale_on, is_sought, seen}
 
 -- the entries of a book looked through, one after the other
 module _ (c : Bool) (d : ℕ) where
-  pub not_seen : {found : Bool} (r : Record) → found ≡ isSought c d r → found ≡ false → false ≡ seen c d r false
+  pub not_seen : {found : Bool} (r : Record) → found ≡ is_sought c d r → found ≡ false → false ≡ seen c d r false
   unfolding seen
   not_seen r e f = sym f ∙ e
 
-  seen-any : (rs : List Record) (s : Bool) → over (seen c d) rs s ≡ s || any (isSought c d) rs
+  seen-any : (rs : List Record) (s : Bool) → over (seen c d) rs s ≡ s || any (is_sought c d) rs
   unfolding over any seen
   seen-any [] true = refl
   seen-any [] false = refl
   seen-any (r ∷ rs) true = seen-any rs true
-  seen-any (r ∷ rs) false = seen-any rs (isSought c d r)
+  seen-any (r ∷ rs) false = seen-any rs (is_sought c d r)
 
-  pub none_seen : (rs : List Record) → false ≡ over (seen c d) rs false → any (isSought c d) rs ≡ false
+  pub none_seen : (rs : List Record) → false ≡ over (seen c d) rs false → any (is_sought c d) rs ≡ false
   none_seen rs e = sym (e ∙ seen-any rs false)
 
 -- without a sale of the day no sum of a sale has an amount, and no balance is above zero
@@ -44,37 +44,37 @@ total-without f g h [] e = refl
 total-without f g h (r ∷ rs) e = let s = or-false-split (g r) (any g rs) e in omega (arith, h r s.0, total-without f g h rs s.1)
 
 module _ (d p : ℕ) where
-  not-counted : (t : ℕ) → isSaleType t ≡ true → (r : Record) → isSaleOn d r ≡ false → counted p d t r ≡ 0
-  unfolding counted isSaleOn
+  not-counted : (t : ℕ) → is_sale_type t ≡ true → (r : Record) → is_sale_on d r ≡ false → counted p d t r ≡ 0
+  unfolding counted is_sale_on
   not-counted t s r e =
-      elim (bool_cases (every (forTests p d t r.label))) [
+      elim (bool_cases (every (for_tests p d t r.label))) [
         | inl q ↦
-            let h = every_holds (forTests p d t r.label) q in
+            let h = every_holds (for_tests p d t r.label) q in
             let k : (key r).type ≡ t = eqb-true (key r).type t h.1.1.1.0 in
-            let sale : isSaleOn d r ≡ true = holds-every (isStanding r ∷ eqb (key r).day d ∷ isSaleType (key r).type ∷ not (isExport (key r)) ∷ []) (h.0, (h.1.1.0, (rw k s, h.1.1.1.1))) in
+            let sale : is_sale_on d r ≡ true = holds-every (is_standing r ∷ eqb (key r).day d ∷ is_sale_type (key r).type ∷ not (is_export (key r)) ∷ []) (h.0, (h.1.1.0, (rw k s, h.1.1.1.1))) in
             absurd (true≢false (sym sale ∙ e))
         | inr q ↦ rw q
       ]
 
-  module _ (rs : List Record) (none : any (isSaleOn d) rs ≡ false) where
-    no-sum : (t : ℕ) → isSaleType t ≡ true → sum_of p d t rs ≡ 0
+  module _ (rs : List Record) (none : any (is_sale_on d) rs ≡ false) where
+    no-sum : (t : ℕ) → is_sale_type t ≡ true → sum_of p d t rs ≡ 0
     unfolding sum_of
-    no-sum t s = total-without (counted p d t) (isSaleOn d) (not-counted t s) rs none
+    no-sum t s = total-without (counted p d t) (is_sale_on d) (not-counted t s) rs none
 
-    no-sales : saleSide dayAhead (tally_of p d rs) ≡ 0
-    unfolding saleSide tally_of total
+    no-sales : sale_side day_ahead (tally_of p d rs) ≡ 0
+    unfolding sale_side tally_of total
     no-sales = omega (arith, no-sum 1 refl, no-sum 3 refl, no-sum 4 refl, no-sum 6 refl)
 
-    not-detected : (R TM : ℕ) → detectedIn R TM d rs p ≡ false
-    unfolding detectedIn isDetected balance balanceOf
-    not-detected R TM = rw (no-sales, not-above (max (100 * TM) (coverSide dayAhead (tally_of p d rs) (boughtBy p d rs) * R))) (and-false (partyOk p))
+    not-detected : (R TM : ℕ) → detected_in R TM d rs p ≡ false
+    unfolding detected_in is_detected balance balance_of
+    not-detected R TM = rw (no-sales, not-above (max (100 * TM) (cover_side day_ahead (tally_of p d rs) (bought_by p d rs) * R))) (and-false (party_ok p))
 
 module _ (ws : List ℕ) (d : ℕ) where
-  pub no-seller : (second : Bool) → any (isSought false d) (entries ws) ≡ false → ofPass second ws d ≡ nobody
-  unfolding ofPass isSought
-  no-seller second none = fun_ext (λ p. rw (not-detected d p (entries ws) none (coefficientOf ws) (toleranceOf ws)) (and-false (cond second (isRepeatedBuyer d (entries ws) p) true)))
+  pub no-seller : (second : Bool) → any (is_sought false d) (entries ws) ≡ false → of_pass second ws d ≡ nobody
+  unfolding of_pass is_sought
+  no-seller second none = fun_ext (λ p. rw (not-detected d p (entries ws) none (coefficient_of ws) (tolerance_of ws)) (and-false (cond second (is_repeated_buyer d (entries ws) p) true)))
 
-  pub no-buyer : {second : Bool} → second ≡ true → any (isSought true d) (entries ws) ≡ false → ofPass second ws d ≡ nobody
-  unfolding ofPass isRepeatedBuyer isSought isCancelledOn
+  pub no-buyer : {second : Bool} → second ≡ true → any (is_sought true d) (entries ws) ≡ false → of_pass second ws d ≡ nobody
+  unfolding of_pass is_repeated_buyer is_sought is_cancelled_on
   no-buyer q none =
-      rw q (fun_ext (λ p. ap (λ b. b && detectedIn (coefficientOf ws) (toleranceOf ws) d (entries ws) p) (any_none _ (isCancelledOn d) (λ r e. rw e) (entries ws) none)))
+      rw q (fun_ext (λ p. ap (λ b. b && detected_in (coefficient_of ws) (tolerance_of ws) d (entries ws) p) (any_none _ (is_cancelled_on d) (λ r e. rw e) (entries ws) none)))

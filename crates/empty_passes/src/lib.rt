@@ -1,10 +1,10 @@
 // Internal: whether a pass of a control has nobody, by scans of a checked book. A caller meets each `requires`.
 ghost use Rattle.std.specs.Prelude.{◌≡◌, true, false};
 ghost use Rattle.numbers.specs.Tests.{any};
-ghost use Rattle.rules.specs.Entry.{recordIn};
-ghost use Rattle.rules.specs.Words.{isBook, entries};
-ghost use Rattle.detection.specs.Tables.{ofPass};
-ghost use Rattle.empty_passes.specs.Sought.{nobody, isSought};
+ghost use Rattle.rules.specs.Entry.{record_in};
+ghost use Rattle.rules.specs.Words.{is_book, entries};
+ghost use Rattle.detection.specs.Tables.{of_pass};
+ghost use Rattle.empty_passes.specs.Sought.{nobody, is_sought};
 
 use detection::sums;
 use rules::Entry;
@@ -12,7 +12,7 @@ use rules::layout::{BILATERAL, CANCELLED, ENTRY_WORDS, HEAD_WORDS, STANDING};
 
 // A cancelled entry of the day, or a standing sale of the day in the day-ahead balance (Article 7).
 fn is_sought(e: Entry, day: u32, cancelled: bool) -> bool
-    ensures { result ≡ isSought cancelled day (recordIn e) }
+    ensures { result ≡ is_sought cancelled day (record_in e) }
 {
     if cancelled {
         return (e.status == CANCELLED) & (e.key.day == day);
@@ -25,8 +25,8 @@ fn is_sought(e: Entry, day: u32, cancelled: bool) -> bool
 
 // Whether the book has such an entry: false only where it has none.
 fn has_entry(book: &[u32], day: u32, cancelled: bool) -> bool
-    requires { isBook book.now ≡ true }
-    ensures { result ≡ false → any (isSought cancelled day) (entries book.now) ≡ false }
+    requires { is_book book.now ≡ true }
+    ensures { result ≡ false → any (is_sought cancelled day) (entries book.now) ≡ false }
 {
     let count = words::count_of(book) as usize;
     let mut i = 0;
@@ -43,8 +43,8 @@ fn has_entry(book: &[u32], day: u32, cancelled: bool) -> bool
 // Whether a pass has no party: true only where it has none.
 // Without a sale of the day nobody is detected, and without a cancelled entry of the day no pair is repeated.
 pub fn has_nobody(book: &[u32], day: u32, second: bool) -> bool
-    requires { isBook book.now ≡ true }
-    ensures { result ≡ true → ofPass second book.now day ≡ nobody }
+    requires { is_book book.now ≡ true }
+    ensures { result ≡ true → of_pass second book.now day ≡ nobody }
 {
     if !has_entry(book, day, false) {
         return true;

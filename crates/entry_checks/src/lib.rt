@@ -1,7 +1,7 @@
 // Internal: the checks of one entry by its figures, for the crates above it.
 ghost use Rattle.std.specs.Prelude.{◌≡◌, leb};
-ghost use Rattle.rules.specs.Entry.{keyIn, partyOk, dayOk, is_type, isVolume, isMoney, isBilateral, counterpartyOk, amountLimit, fault};
-ghost use Rattle.entry_checks.specs.Parts.{counterpartyLimit};
+ghost use Rattle.rules.specs.Entry.{key_in, party_ok, day_ok, is_type, is_volume, is_money, is_bilateral, counterparty_ok, amount_limit, fault};
+ghost use Rattle.entry_checks.specs.Parts.{counterparty_limit};
 
 use rules::Key;
 use rules::bounds::{LAST_DAY, LAST_PARTY, MOST_MONEY, MOST_VOLUME};
@@ -10,25 +10,25 @@ use rules::layout::{BILATERAL, UPDATED_PROGRAM};
 
 // Checks 3 to 7 of a post, one each (01, 'Entry types').
 pub fn party_ok(party: u32) -> bool
-    ensures { result ≡ partyOk party }
+    ensures { result ≡ party_ok party }
 {
     (1 <= party) & (party <= LAST_PARTY)
 }
 
 pub fn day_ok(day: u32) -> bool
-    ensures { result ≡ dayOk day }
+    ensures { result ≡ day_ok day }
 {
     day <= LAST_DAY
 }
 
 pub fn is_money(entry_type: u32) -> bool
-    ensures { result ≡ isMoney entry_type }
+    ensures { result ≡ is_money entry_type }
 {
     (17 <= entry_type) & (entry_type <= 20)
 }
 
 pub fn is_volume(entry_type: u32) -> bool
-    ensures { result ≡ isVolume entry_type }
+    ensures { result ≡ is_volume entry_type }
 {
     ((1 <= entry_type) & (entry_type <= 16)) | (entry_type == UPDATED_PROGRAM)
 }
@@ -41,7 +41,7 @@ pub fn is_type(entry_type: u32) -> bool
 
 // The largest counterparty of a type. It is chosen, and nothing branches on the type of a legal entry: see `words_ok`.
 fn counterparty_limit(entry_type: u32) -> u32
-    ensures { result ≡ counterpartyLimit entry_type }
+    ensures { result ≡ counterparty_limit entry_type }
 {
     if entry_type == BILATERAL {
         LAST_PARTY
@@ -51,14 +51,14 @@ fn counterparty_limit(entry_type: u32) -> u32
 }
 
 pub fn counterparty_ok(key: Key) -> bool
-    ensures { result ≡ counterpartyOk (keyIn key) }
+    ensures { result ≡ counterparty_ok (key_in key) }
 {
     (key.counterparty <= counterparty_limit(key.entry_type))
         & !((key.counterparty == key.party) & (key.entry_type == BILATERAL))
 }
 
 pub fn amount_ok(entry_type: u32, amount: u64) -> bool
-    ensures { result ≡ leb amount (amountLimit entry_type) }
+    ensures { result ≡ leb amount (amount_limit entry_type) }
 {
     if is_money(entry_type) {
         amount <= MOST_MONEY
@@ -69,7 +69,7 @@ pub fn amount_ok(entry_type: u32, amount: u64) -> bool
 
 // The lowest cause of 3 to 7 that holds, or 0.
 pub fn fault_of(key: Key, amount: u64) -> u32
-    ensures { result ≡ fault (keyIn key) amount }
+    ensures { result ≡ fault (key_in key) amount }
 {
     if !party_ok(key.party) {
         return BAD_PARTY;
@@ -91,7 +91,7 @@ pub fn fault_of(key: Key, amount: u64) -> u32
 
 // A bilateral sale with a counterparty above 0.
 pub fn is_bilateral(key: Key) -> bool
-    ensures { result ≡ isBilateral (keyIn key) }
+    ensures { result ≡ is_bilateral (key_in key) }
 {
     (key.entry_type == BILATERAL) & (0 < key.counterparty)
 }

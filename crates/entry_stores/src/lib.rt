@@ -1,7 +1,7 @@
 // Internal: entries stored in a book's words, for the crates above it. A caller meets each `requires`.
 ghost use Rattle.std.specs.Prelude.{◌≡◌, true, ◌+◌, ◌<◌, ◌≤◌, length, drop};
-ghost use Rattle.rules.specs.Entry.{keyIn, recordOf, legal, standing};
-ghost use Rattle.rules.specs.Words.{entryOk, roomIn, countOf};
+ghost use Rattle.rules.specs.Entry.{key_in, record_of, legal, standing};
+ghost use Rattle.rules.specs.Words.{entry_ok, room_in, count_of};
 ghost use Rattle.rules.specs.Book.{place_of};
 ghost use Rattle.rules.specs.Stores.{stored_at, posted, restatused};
 
@@ -14,8 +14,8 @@ use rules::layout::{
 // Stores the five words of a standing entry at a place.
 pub fn store_entry(book: &mut [u32], at: usize, key: Key, amount: u64)
     requires at_in_bounds { at + 5 ≤ length book.old }
-    requires amount_value { legal (recordOf (keyIn key) standing amount) ≡ true }
-    ensures { book.new ≡ stored_at book.old at (keyIn key) amount }
+    requires amount_value { legal (record_of (key_in key) standing amount) ≡ true }
+    ensures { book.new ≡ stored_at book.old at (key_in key) amount }
 {
     book[at] = PARTY_WORD + key.party;
     book[at + 1] = DAY_WORD + key.day;
@@ -26,9 +26,9 @@ pub fn store_entry(book: &mut [u32], at: usize, key: Key, amount: u64)
 
 // Appends a standing entry: its words at the next place, and last the count.
 pub fn append(book: &mut [u32], key: Key, amount: u64)
-    requires book_bound { countOf book.old < roomIn (length book.old) }
-    requires amount_value { legal (recordOf (keyIn key) standing amount) ≡ true }
-    ensures { book.new ≡ posted book.old (keyIn key) amount }
+    requires book_bound { count_of book.old < room_in (length book.old) }
+    requires amount_value { legal (record_of (key_in key) standing amount) ≡ true }
+    ensures { book.new ≡ posted book.old (key_in key) amount }
 {
     let count = words::count_of(book);
     let at = words::place_of(count);
@@ -39,7 +39,7 @@ pub fn append(book: &mut [u32], key: Key, amount: u64)
 // Gives a standing entry another status; the rest of its kind 3 word stays.
 pub fn set_status(book: &mut [u32], number: usize, status: u32)
     requires number_in_bounds { place_of number + 5 ≤ length book.old }
-    requires book_value { entryOk (drop (place_of number) book.old) ≡ true }
+    requires book_value { entry_ok (drop (place_of number) book.old) ≡ true }
     requires status_bound { status ≤ 2 }
     ensures { book.new ≡ restatused status book.old number }
 {

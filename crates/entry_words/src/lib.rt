@@ -1,8 +1,8 @@
 // Internal: the five words of one entry, read and checked, for the crates above it.
 ghost use Rattle.std.specs.Prelude.{◌≡◌, [], ◌∷◌};
-ghost use Rattle.rules.specs.Entry.{entryOf, amountLimit};
-ghost use Rattle.rules.specs.Words.{decode, entryOk};
-ghost use Rattle.entry_words.specs.Parts.{whoLimit, amountWords, amountWordsOk, markWordsOk};
+ghost use Rattle.rules.specs.Entry.{entry_of, amount_limit};
+ghost use Rattle.rules.specs.Words.{decode, entry_ok};
+ghost use Rattle.entry_words.specs.Parts.{who_limit, amount_words, amount_words_ok, mark_words_ok};
 
 use rules::bounds::{LAST_DAY, LAST_PARTY, MOST_MONEY, MOST_VOLUME};
 use rules::layout::{
@@ -22,7 +22,7 @@ const MOST_MONEY_WORDS: u64 = LOW_WORD as u64
 
 // The entry that five words hold.
 pub fn entry_of(party: u32, day: u32, figures: u32, low: u32, high: u32) -> Entry
-    ensures { result ≡ entryOf (decode (party ∷ day ∷ figures ∷ low ∷ high ∷ [])) }
+    ensures { result ≡ entry_of (decode (party ∷ day ∷ figures ∷ low ∷ high ∷ [])) }
 {
     let named = figures % KIND;
     let amount = (low % KIND) as u64 + (high % KIND) as u64 * LOW_AMOUNT;
@@ -40,7 +40,7 @@ pub fn entry_of(party: u32, day: u32, figures: u32, low: u32, high: u32) -> Entr
 
 // The largest type and counterparty as one number, the low 24 bits of a kind 3 word: a counterparty only in type 6.
 fn who_limit(entry_type: u32) -> u32
-    ensures { result ≡ whoLimit entry_type }
+    ensures { result ≡ who_limit entry_type }
 {
     if entry_type == BILATERAL {
         BILATERAL + LAST_PARTY * TYPES
@@ -51,7 +51,7 @@ fn who_limit(entry_type: u32) -> u32
 
 // The two words of the largest amount of a type as one number. A counterparty makes no type one of money.
 fn amount_words_limit(who: u32) -> u64
-    ensures { result ≡ amountWords (amountLimit who) }
+    ensures { result ≡ amount_words (amount_limit who) }
 {
     if entry_checks::is_money(who) {
         MOST_MONEY_WORDS
@@ -62,7 +62,7 @@ fn amount_words_limit(who: u32) -> u64
 
 // The two words of an amount: in order as one number, where their kinds are right.
 fn amount_words_ok(who: u32, low: u32, high: u32) -> bool
-    ensures { result ≡ amountWordsOk who low high }
+    ensures { result ≡ amount_words_ok who low high }
 {
     (LOW_WORD <= low)
         & (low < HIGH_WORD)
@@ -72,7 +72,7 @@ fn amount_words_ok(who: u32, low: u32, high: u32) -> bool
 
 // A mark: all of its words but the day's are known.
 fn mark_words_ok(party: u32, day: u32, figures: u32, low: u32, high: u32) -> bool
-    ensures { result ≡ markWordsOk party day figures low high }
+    ensures { result ≡ mark_words_ok party day figures low high }
 {
     (party == PARTY_WORD)
         & ((DAY_WORD <= day) & (day <= DAY_WORD + LAST_DAY))
@@ -84,7 +84,7 @@ fn mark_words_ok(party: u32, day: u32, figures: u32, low: u32, high: u32) -> boo
 // The five words of an entry, whole words compared. What depends on the type is a limit that is chosen, so that legal
 // entries but marks take one way whatever their types and statuses: a branch on these is mispredicted.
 pub fn words_ok(party: u32, day: u32, figures: u32, low: u32, high: u32) -> bool
-    ensures { result ≡ entryOk (party ∷ day ∷ figures ∷ low ∷ high ∷ []) }
+    ensures { result ≡ entry_ok (party ∷ day ∷ figures ∷ low ∷ high ∷ []) }
 {
     // party and day in range, no status past cancelled, and none cancelled without a counterparty
     if !(((PARTY_WORD < party) & (party <= PARTY_WORD + LAST_PARTY))

@@ -1,13 +1,13 @@
 // Internal: the causes of a file's items, in file order. A caller meets each `requires`.
 ghost use Rattle.std.specs.Prelude.{◌≡◌, true, false, ◌||◌, [], ℕ, ◌+◌, ◌*◌, ◌<◌, ◌≤◌, length, get_or, drop};
 ghost use Rattle.numbers.specs.Tests.{any};
-ghost use Rattle.rules.specs.Entry.{keyIn, isMark, dayPlaces};
-ghost use Rattle.rules.specs.Words.{decode, entryOk, isBook, entries};
-ghost use Rattle.rules.specs.Book.{isMarkOf, isClosed};
-ghost use Rattle.rules.specs.DayFile.{line, empty_block, itemCause, items, mostBytes, isFile};
-ghost use Rattle.rules.specs.Calls.{fileAnswer};
-ghost use Rattle.file_walk.specs.Walk.{isMore, itemsAt};
-ghost use Rattle.file_check.specs.Check.{TableOf, nonePosted, causeBy, firstCause, linesAt, scanned};
+ghost use Rattle.rules.specs.Entry.{key_in, is_mark, day_places};
+ghost use Rattle.rules.specs.Words.{decode, entry_ok, is_book, entries};
+ghost use Rattle.rules.specs.Book.{is_mark_of, is_closed};
+ghost use Rattle.rules.specs.DayFile.{line, empty_block, item_cause, items, most_bytes, is_file};
+ghost use Rattle.rules.specs.Calls.{file_answer};
+ghost use Rattle.file_walk.specs.Walk.{is_more, items_at};
+ghost use Rattle.file_check.specs.Check.{TableOf, none_posted, cause_by, first_cause, lines_at, scanned};
 
 use file_walk::{Cursor, walk};
 use rules::bounds::DAYS;
@@ -16,7 +16,7 @@ use rules::{FileRead, Key};
 
 // A file that is refused posts no line.
 pub fn refused(cause: u32) -> FileRead
-    ensures { result ≡ nonePosted cause }
+    ensures { result ≡ none_posted cause }
 {
     FileRead {
         answer: cause,
@@ -26,7 +26,7 @@ pub fn refused(cause: u32) -> FileRead
 
 // A block without lines still has its party and day checked.
 fn block_cause(party: u32, day: u32) -> u32
-    ensures { result ≡ itemCause [] (empty_block party day) }
+    ensures { result ≡ item_cause [] (empty_block party day) }
 {
     if !entry_checks::party_ok(party) {
         return BAD_PARTY;
@@ -39,7 +39,7 @@ fn block_cause(party: u32, day: u32) -> u32
 
 // The flag is looked at before the type, which it would be costly to branch on in each line.
 fn line_cause(closed: &[bool], key: Key, amount: u64) -> u32
-    ensures { result ≡ causeBy closed.now (line (keyIn key) amount) }
+    ensures { result ≡ cause_by closed.now (line (key_in key) amount) }
 {
     let fault = entry_checks::fault_of(key, amount);
     if fault != 0 {
@@ -56,8 +56,8 @@ fn line_cause(closed: &[bool], key: Key, amount: u64) -> u32
 
 // The cause of what the next head or line holds.
 fn cause_at(file: &[u8], closed: &[bool], c: Cursor) -> u32
-    requires { isMore file.now c ≡ true }
-    ensures { result ≡ firstCause closed.now (itemsAt file.now c) }
+    requires { is_more file.now c ≡ true }
+    ensures { result ≡ first_cause closed.now (items_at file.now c) }
 {
     let at = c.at;
     if c.left == 0 {
@@ -73,14 +73,14 @@ fn cause_at(file: &[u8], closed: &[bool], c: Cursor) -> u32
 }
 
 fn lines_at(c: Cursor) -> u32
-    ensures { result ≡ linesAt c }
+    ensures { result ≡ lines_at c }
 {
     if c.left == 0 { 0 } else { 1 }
 }
 
 // The first cause in file order, and how many lines there are.
 fn scan(file: &[u8], closed: &[bool]) -> FileRead
-    requires { length file.now ≤ mostBytes }
+    requires { length file.now ≤ most_bytes }
     ensures { result ≡ scanned closed.now (items file.now) }
 {
     let mut c = walk::begin();
@@ -104,10 +104,10 @@ fn scan(file: &[u8], closed: &[bool]) -> FileRead
 
 // The answer to a file, for a book and a file: what the lines and empty blocks say, then room. `closed` tells the closed days.
 fn answer_with(book: &[u32], file: &[u8], closed: &[bool]) -> FileRead
-    requires book_value { isBook book.now ≡ true }
-    requires file_value { isFile file.now ≡ true }
+    requires book_value { is_book book.now ≡ true }
+    requires file_value { is_file file.now ≡ true }
     requires table_of { TableOf closed.now (entries book.now) }
-    ensures { result ≡ fileAnswer book.now file.now }
+    ensures { result ≡ file_answer book.now file.now }
 {
     let found = scan(file, closed);
     if found.answer != 0 {
@@ -122,9 +122,9 @@ fn answer_with(book: &[u32], file: &[u8], closed: &[bool]) -> FileRead
 
 // With a flag for each day: for a book with a mark only, for the table takes 36 KB of stack.
 fn answer_marked(book: &[u32], file: &[u8]) -> FileRead
-    requires book_value { isBook book.now ≡ true }
-    requires file_value { isFile file.now ≡ true }
-    ensures { result ≡ fileAnswer book.now file.now }
+    requires book_value { is_book book.now ≡ true }
+    requires file_value { is_file file.now ≡ true }
+    ensures { result ≡ file_answer book.now file.now }
 {
     let mut closed = [false; DAYS];
     closed_days::close_days(book, &mut closed);
@@ -134,10 +134,10 @@ fn answer_marked(book: &[u32], file: &[u8]) -> FileRead
 // By the flags lent; where none are, a book without a mark needs one only. That it calls itself keeps the compiler from
 // putting the table of `answer_marked` into its own frame and its callers'.
 fn answer_in(book: &[u32], file: &[u8], closed: &[bool]) -> FileRead
-    requires book_value { isBook book.now ≡ true }
-    requires file_value { isFile file.now ≡ true }
+    requires book_value { is_book book.now ≡ true }
+    requires file_value { is_file file.now ≡ true }
     requires table_of { 0 < length closed.now → TableOf closed.now (entries book.now) }
-    ensures { result ≡ fileAnswer book.now file.now }
+    ensures { result ≡ file_answer book.now file.now }
 {
     if closed.len() > 0 {
         return answer_with(book, file, closed);
@@ -150,9 +150,9 @@ fn answer_in(book: &[u32], file: &[u8], closed: &[bool]) -> FileRead
 }
 
 pub fn answer_of(book: &[u32], file: &[u8]) -> FileRead
-    requires book_value { isBook book.now ≡ true }
-    requires file_value { isFile file.now ≡ true }
-    ensures { result ≡ fileAnswer book.now file.now }
+    requires book_value { is_book book.now ≡ true }
+    requires file_value { is_file file.now ≡ true }
+    ensures { result ≡ file_answer book.now file.now }
 {
     answer_in(book, file, &[])
 }

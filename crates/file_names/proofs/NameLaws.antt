@@ -11,10 +11,10 @@ use lib.Seq.{get_or-set_same, get_or-set_other}
 use borrow.Author.Tests.{eqb-true, eqb-false, lt-ltb}
 use Rattle.numbers.specs.Tests.{any}
 use Rattle.numbers.proofs.TestLaws.{bool_cases, any_append, or-false-split}
-use Rattle.rules.specs.DayFile.{Item, line, empty_block, items, itemNames, fileNames}
+use Rattle.rules.specs.DayFile.{Item, line, empty_block, items, item_names, file_names}
 use Rattle.file_walk.specs.declared.Cursor.{Cursor}
-use Rattle.file_walk.specs.Walk.{isMore, itemsAt, pastStep, leftItems}
-use Rattle.file_names.specs.Names.{isNamed, itemHas, namesParty}
+use Rattle.file_walk.specs.Walk.{is_more, items_at, past_step, left_items}
+use Rattle.file_names.specs.Names.{is_named, item_has, names_party}
 use Rattle.file_walk.proofs.WalkLaws.{items-step, items-end, past-within, table_step}
 
 -- one mark
@@ -25,7 +25,7 @@ marked t n d h =
       | inr s ↦ rw (s, or-false (get_or t d false)) (get_or-set_other t n d true false (λ q. eqb-false n d s (sym q)))
     ]
 
-pub both-marked : (t : List Bool) (a q p : ℕ) → (q ≡ 0 → ⊥) → p < length t → get_or (set (set t a true) q true) p false ≡ get_or t p false || isNamed a q p
+pub both-marked : (t : List Bool) (a q p : ℕ) → (q ≡ 0 → ⊥) → p < length t → get_or (set (set t a true) q true) p false ≡ get_or t p false || is_named a q p
 both-marked t a q p n h =
     marked (set t a true) q p (rw (length-set t a true) h)
     ∙ rw (marked t a p h, lt-ltb 0 q (pos_of_ne-zero n), or_assoc (get_or t p false) (eqb a p) (eqb q p))
@@ -36,31 +36,31 @@ module _ (f : Item → Bool) where
   unfolding any
   of_none e b = rw (e, or-false b)
 
-  pub of_one : (i : Item) {is : List Item} → is ≡ i ∷ [] → any f is ≡ f i
+  pub of_one_lem : (i : Item) {is : List Item} → is ≡ i ∷ [] → any f is ≡ f i
   unfolding any
-  of_one i e = rw (e, or-false (f i))
+  of_one_lem i e = rw (e, or-false (f i))
 
-  pub names-step : (bs : List ℕ) (c : Cursor) → isMore bs c ≡ true → any f (leftItems bs c) ≡ any f (itemsAt bs c) || any f (leftItems bs (pastStep bs c))
+  pub names-step : (bs : List ℕ) (c : Cursor) → is_more bs c ≡ true → any f (left_items bs c) ≡ any f (items_at bs c) || any f (left_items bs (past_step bs c))
   names-step bs c more =
-      rw (items-step bs c more) (any_append f (itemsAt bs c) (leftItems bs (pastStep bs c)))
+      rw (items-step bs c more) (any_append f (items_at bs c) (left_items bs (past_step bs c)))
 
 -- a table in a walk: what the whole file names is what the table has, or what is left names
 pub record Marks (names : ℕ → Item → Bool) (bs : List ℕ) (whole t : List Bool) (c : Cursor) : Type 0 where
   pub within : c.at ≤ length bs
   pub long : length t ≡ length whole
-  pub has : (n : ℕ) → n < length whole → get_or whole n false || any (names n) (items bs) ≡ get_or t n false || any (names n) (leftItems bs c)
+  pub has : (n : ℕ) → n < length whole → get_or whole n false || any (names n) (items bs) ≡ get_or t n false || any (names n) (left_items bs c)
 
-module _ (names : ℕ → Item → Bool) (bs : List ℕ) (whole t : List Bool) (c : Cursor) (w : Marks names bs whole t c) {more : Bool} (e : more ≡ isMore bs c) where
+module _ (names : ℕ → Item → Bool) (bs : List ℕ) (whole t : List Bool) (c : Cursor) (w : Marks names bs whole t c) {more : Bool} (e : more ≡ is_more bs c) where
   -- one head or line
-  pub marks-step : {u : List Bool} {next : Cursor} → more ≡ true → next ≡ pastStep bs c → length u ≡ length t →
-      ((n : ℕ) → n < length t → get_or u n false ≡ get_or t n false || any (names n) (itemsAt bs c)) → Marks names bs whole u next
+  pub marks-step : {u : List Bool} {next : Cursor} → more ≡ true → next ≡ past_step bs c → length u ≡ length t →
+      ((n : ℕ) → n < length t → get_or u n false ≡ get_or t n false || any (names n) (items_at bs c)) → Marks names bs whole u next
   marks-step y p l h =
       let m = sym e ∙ y in
       rw p
       (record {
         within = (past-within bs c m).1;
         long = l ∙ w.long;
-        has = λ n b. table_step (get_or t n false) (any (names n) (itemsAt bs c)) (any (names n) (leftItems bs (pastStep bs c))) (w.has n b) (names-step (names n) bs c m) (h n (rw w.long b));
+        has = λ n b. table_step (get_or t n false) (any (names n) (items_at bs c)) (any (names n) (left_items bs (past_step bs c))) (w.has n b) (names-step (names n) bs c m) (h n (rw w.long b));
       })
 
   pub marks-end : more ≡ false → (n : ℕ) → n < length whole → get_or t n false ≡ get_or whole n false || any (names n) (items bs)
@@ -68,17 +68,17 @@ module _ (names : ℕ → Item → Bool) (bs : List ℕ) (whole t : List Bool) (
   marks-end y n b = sym (w.has n b ∙ rw (items-end bs c (sym e ∙ y), or-false (get_or t n false)))
 
 -- a party that is not named is named on no day
-not-on-day : (p d : ℕ) (i : Item) → itemHas p i ≡ false → itemNames p d i ≡ false
-unfolding itemHas itemNames
+not-on-day : (p d : ℕ) (i : Item) → item_has p i ≡ false → item_names p d i ≡ false
+unfolding item_has item_names
 not-on-day p d (line k a) e = rw (e, and-false (eqb k.day d))
 not-on-day p d (empty_block q day) e = rw e
 
-pub not_named : (bs : List ℕ) (p : ℕ) → namesParty bs p ≡ false → (d : ℕ) → fileNames bs p d ≡ false
-unfolding namesParty fileNames any
+pub not_named : (bs : List ℕ) (p : ℕ) → names_party bs p ≡ false → (d : ℕ) → file_names bs p d ≡ false
+unfolding names_party file_names any
 not_named bs p e d = go (items bs) e
   where
-    go : (is : List Item) → any (itemHas p) is ≡ false → any (itemNames p d) is ≡ false
+    go : (is : List Item) → any (item_has p) is ≡ false → any (item_names p d) is ≡ false
     go [] e = refl
     go (i ∷ is) e =
-        let s = or-false-split (itemHas p i) (any (itemHas p) is) e in
+        let s = or-false-split (item_has p i) (any (item_has p) is) e in
         rw (not-on-day p d i s.0) (go is s.1)

@@ -1,14 +1,14 @@
 // The parties and days that a file names: blocks, and counterparties above 0.
 ghost use Rattle.std.specs.Prelude.{◌≡◌, true, false, ◌||◌, ℕ, ◌<◌, length, get_or, set};
 ghost use Rattle.numbers.specs.Tests.{any};
-ghost use Rattle.rules.specs.DayFile.{itemNames, fileNames};
-ghost use Rattle.file_walk.specs.Walk.{isMore, itemsAt};
-ghost use Rattle.file_names.specs.Names.{isNamed, itemHas, namesParty};
+ghost use Rattle.rules.specs.DayFile.{item_names, file_names};
+ghost use Rattle.file_walk.specs.Walk.{is_more, items_at};
+ghost use Rattle.file_names.specs.Names.{is_named, item_has, names_party};
 
 use file_walk::{Cursor, walk};
 
 fn is_named(first: u32, second: u32, party: u32) -> bool
-    ensures { result ≡ isNamed first second party }
+    ensures { result ≡ is_named first second party }
 {
     (first == party) | ((0 < second) & (second == party))
 }
@@ -25,8 +25,8 @@ fn mark(table: &mut [bool], number: u32)
 }
 
 fn day_at(file: &[u8], c: Cursor, party: u32, days: &mut [bool])
-    requires { isMore file.now c ≡ true }
-    ensures { (d : ℕ) → d < length days.old → get_or days.new d false ≡ get_or days.old d false || any (itemNames party d) (itemsAt file.now c) }
+    requires { is_more file.now c ≡ true }
+    ensures { (d : ℕ) → d < length days.old → get_or days.new d false ≡ get_or days.old d false || any (item_names party d) (items_at file.now c) }
 {
     let at = c.at;
     if c.left == 0 {
@@ -49,7 +49,7 @@ fn day_at(file: &[u8], c: Cursor, party: u32, days: &mut [bool])
 
 // Marks the days on which a file names the party.
 pub fn mark_days(file: &[u8], party: u32, days: &mut [bool])
-    ensures { (d : ℕ) → d < length days.old → get_or days.new d false ≡ get_or days.old d false || fileNames file.now party d }
+    ensures { (d : ℕ) → d < length days.old → get_or days.new d false ≡ get_or days.old d false || file_names file.now party d }
 {
     let mut c = walk::begin();
     while walk::more(file, c) {
@@ -59,8 +59,8 @@ pub fn mark_days(file: &[u8], party: u32, days: &mut [bool])
 }
 
 fn party_at(file: &[u8], c: Cursor, parties: &mut [bool])
-    requires { isMore file.now c ≡ true }
-    ensures { (p : ℕ) → p < length parties.old → get_or parties.new p false ≡ get_or parties.old p false || any (itemHas p) (itemsAt file.now c) }
+    requires { is_more file.now c ≡ true }
+    ensures { (p : ℕ) → p < length parties.old → get_or parties.new p false ≡ get_or parties.old p false || any (item_has p) (items_at file.now c) }
 {
     let at = c.at;
     if c.left == 0 {
@@ -81,7 +81,7 @@ fn party_at(file: &[u8], c: Cursor, parties: &mut [bool])
 
 // Marks the parties that a file names, on whatever day.
 pub fn mark_parties(file: &[u8], parties: &mut [bool])
-    ensures { (p : ℕ) → p < length parties.old → get_or parties.new p false ≡ get_or parties.old p false || namesParty file.now p }
+    ensures { (p : ℕ) → p < length parties.old → get_or parties.new p false ≡ get_or parties.old p false || names_party file.now p }
 {
     let mut c = walk::begin();
     while walk::more(file, c) {

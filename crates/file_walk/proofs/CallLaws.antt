@@ -13,13 +13,13 @@ use types.Logic.{Logic, sem}
 use contract.Monad.{Fun, fact}
 use types.Kit.{‵, ◌⊛◌, ⋆, ◌$◌, ◌∵◌, !, qed, move, join, fjoin, frame, done}
 use denote.Laws.{Is}
-use denote.Plain.{bool_Makes}
+use denote.Plain.{bool_makes}
 use denote.Builtin.{bool}
 use denote.Steps.{nothing, owned}
 use denote.Triple.Statement.{Contract}
 use denote.Triple.Spec.{triple_of}
 use denote.Triple.Clauses.{ensured, lasts}
-use Rattle.file_walk.specs.Read.{takenBy, twoBy, threeBy, pieceBy}
+use Rattle.file_walk.specs.Read.{taken_by, two_by, three_by, piece_by}
 use Rattle.file_walk.specs.declared.reader.Reader.{Reader}
 use Rattle.file_walk.specs.declared.reader.Taken.{Taken}
 use Rattle.file_walk.specs.declared.reader.TakenPiece.{TakenPiece}
@@ -68,18 +68,18 @@ module _ {M : Type 1} {𝓤 : Ura M} (𝓛 : Logic 𝓤) (mem : Memory → SProp
     asks-three = qed 𝓛 (‵ ((ReaderT κ).own r (u ∷ [])) ∷ (‵ (flft κ q) ⊛ ‵ ftrue) ∷ []) ∵ nothing ! $ move ! (1 ∷ 0 ∷ []) $ fjoin ! $ move ! (1 ∷ 0 ∷ []) $ join ! $ frame ! $ done !
 
     pub asks-piece : (line : Bool) → ent 𝓤 (⋆ 𝓛 (‵ ((ReaderT κ).own r (u ∷ [])) ∷ (‵ (flft κ q) ⊛ ‵ ftrue) ∷ [])) (Piece.pre (to-piece κ q r u line))
-    asks-piece line = qed 𝓛 (‵ ((ReaderT κ).own r (u ∷ [])) ∷ (‵ (flft κ q) ⊛ ‵ ftrue) ∷ []) ∵ nothing ! $ owned ! bool (Is bool) (bool_Makes 𝓛) line _ refl $ fjoin ! $ move ! (1 ∷ 0 ∷ []) $ fjoin ! $ move ! (1 ∷ 0 ∷ []) $ join ! $ frame ! $ done !
+    asks-piece line = qed 𝓛 (‵ ((ReaderT κ).own r (u ∷ [])) ∷ (‵ (flft κ q) ⊛ ‵ ftrue) ∷ []) ∵ nothing ! $ owned ! bool (Is bool) (bool_makes 𝓛) line _ refl $ fjoin ! $ move ! (1 ∷ 0 ∷ []) $ fjoin ! $ move ! (1 ∷ 0 ∷ []) $ join ! $ frame ! $ done !
 
   -- what is known of each one's result: of its `ensured`, the clause alone
   module _ (κ : Lft) (r : Reader) where
-    pub said-take : (t : Taken) → ent 𝓤 (ensured 𝓛 take.ended (take.clauses 𝓛 mem run) (κ, tt) (r, tt) tt t) (fact 𝓤 (t ≡ takenBy r))
-    said-take t = ex_e 𝓤 _ (λ ws. snd∗ 𝓤 (sem 𝓛 (lasts take.ended (κ, tt) (r, tt) ws)) (fact 𝓤 (t ≡ takenBy r)))
+    pub said-take : (t : Taken) → ent 𝓤 (ensured 𝓛 take.ended (take.clauses 𝓛 mem run) (κ, tt) (r, tt) tt t) (fact 𝓤 (t ≡ taken_by r))
+    said-take t = ex_e 𝓤 _ (λ ws. snd∗ 𝓤 (sem 𝓛 (lasts take.ended (κ, tt) (r, tt) ws)) (fact 𝓤 (t ≡ taken_by r)))
 
-    pub said-two : (t : TakenPiece) → ent 𝓤 (ensured 𝓛 two.ended (two.clauses 𝓛 mem run) (κ, tt) (r, tt) tt t) (fact 𝓤 (t ≡ twoBy r))
-    said-two t = ex_e 𝓤 _ (λ ws. snd∗ 𝓤 (sem 𝓛 (lasts two.ended (κ, tt) (r, tt) ws)) (fact 𝓤 (t ≡ twoBy r)))
+    pub said-two : (t : TakenPiece) → ent 𝓤 (ensured 𝓛 two.ended (two.clauses 𝓛 mem run) (κ, tt) (r, tt) tt t) (fact 𝓤 (t ≡ two_by r))
+    said-two t = ex_e 𝓤 _ (λ ws. snd∗ 𝓤 (sem 𝓛 (lasts two.ended (κ, tt) (r, tt) ws)) (fact 𝓤 (t ≡ two_by r)))
 
-    pub said-three : (t : TakenPiece) → ent 𝓤 (ensured 𝓛 three.ended (three.clauses 𝓛 mem run) (κ, tt) (r, tt) tt t) (fact 𝓤 (t ≡ threeBy r))
-    said-three t = ex_e 𝓤 _ (λ ws. snd∗ 𝓤 (sem 𝓛 (lasts three.ended (κ, tt) (r, tt) ws)) (fact 𝓤 (t ≡ threeBy r)))
+    pub said-three : (t : TakenPiece) → ent 𝓤 (ensured 𝓛 three.ended (three.clauses 𝓛 mem run) (κ, tt) (r, tt) tt t) (fact 𝓤 (t ≡ three_by r))
+    said-three t = ex_e 𝓤 _ (λ ws. snd∗ 𝓤 (sem 𝓛 (lasts three.ended (κ, tt) (r, tt) ws)) (fact 𝓤 (t ≡ three_by r)))
 
-    pub said-piece : (line : Bool) (t : TakenPiece) → ent 𝓤 (ensured 𝓛 piece.ended (piece.clauses 𝓛 mem run) (κ, tt) (r, (line, tt)) tt t) (fact 𝓤 (t ≡ pieceBy r line))
-    said-piece line t = ex_e 𝓤 _ (λ ws. snd∗ 𝓤 (sem 𝓛 (lasts piece.ended (κ, tt) (r, (line, tt)) ws)) (fact 𝓤 (t ≡ pieceBy r line)))
+    pub said-piece : (line : Bool) (t : TakenPiece) → ent 𝓤 (ensured 𝓛 piece.ended (piece.clauses 𝓛 mem run) (κ, tt) (r, (line, tt)) tt t) (fact 𝓤 (t ≡ piece_by r line))
+    said-piece line t = ex_e 𝓤 _ (λ ws. snd∗ 𝓤 (sem 𝓛 (lasts piece.ended (κ, tt) (r, (line, tt)) ws)) (fact 𝓤 (t ≡ piece_by r line)))

@@ -8,24 +8,24 @@ use Rattle.file_walk.specs.declared.reader.Piece.{Piece}
 use Rattle.file_walk.specs.declared.reader.TakenPiece.{TakenPiece}
 
 -- a whole word and the byte after it, or none and the byte itself
-unfoldable pub foundAt : List ℕ → ℕ → Found
-foundAt bs at =
+unfoldable pub found_at : List ℕ → ℕ → Found
+found_at bs at =
     cond
     (leb (at + 4) (length bs))
     (record { whole = true; word = word_at bs at; at = at + 4 })
     (record { whole = false; word = 0; at = at })
 
 -- a step: the same bytes, the place past the word, and the word; or unmoved and none
-abbrev pub movedBy : Reader → Found → Taken
-movedBy r f =
+abbrev pub moved_by : Reader → Found → Taken
+moved_by r f =
     record {
       reader = record { bytes = r.bytes; at = f.at };
       whole = f.whole;
       word = f.word;
     }
 
-abbrev pub takenBy : Reader → Taken
-takenBy r = movedBy r (foundAt r.bytes.now r.at)
+abbrev pub taken_by : Reader → Taken
+taken_by r = moved_by r (found_at r.bytes.now r.at)
 
 -- a head is two words, a line three
 abbrev pub head_of : Taken → Taken → TakenPiece
@@ -49,41 +49,41 @@ line_of h c =
           };
     }
 
-abbrev pub twoBy : Reader → TakenPiece
-twoBy r = head_of (takenBy r) (takenBy (takenBy r).reader)
+abbrev pub two_by : Reader → TakenPiece
+two_by r = head_of (taken_by r) (taken_by (taken_by r).reader)
 
-abbrev pub threeBy : Reader → TakenPiece
-threeBy r = line_of (twoBy r) (takenBy (twoBy r).reader)
+abbrev pub three_by : Reader → TakenPiece
+three_by r = line_of (two_by r) (taken_by (two_by r).reader)
 
-abbrev pub pieceBy : Reader → Bool → TakenPiece
-pieceBy r line = cond line (threeBy r) (twoBy r)
+abbrev pub piece_by : Reader → Bool → TakenPiece
+piece_by r line = cond line (three_by r) (two_by r)
 
 -- the same with no reader: the words from a byte on
-abbrev pub secondAt : List ℕ → ℕ → Found
-secondAt bs at = foundAt bs (foundAt bs at).at
+abbrev pub second_at : List ℕ → ℕ → Found
+second_at bs at = found_at bs (found_at bs at).at
 
-abbrev pub thirdAt : List ℕ → ℕ → Found
-thirdAt bs at = foundAt bs (secondAt bs at).at
+abbrev pub third_at : List ℕ → ℕ → Found
+third_at bs at = found_at bs (second_at bs at).at
 
-abbrev pub headFrom : List ℕ → ℕ → Piece
-headFrom bs at =
+abbrev pub head_from : List ℕ → ℕ → Piece
+head_from bs at =
     record {
-      any = (foundAt bs at).whole;
-      whole = (secondAt bs at).whole;
-      first = (foundAt bs at).word;
-      second = (secondAt bs at).word;
+      any = (found_at bs at).whole;
+      whole = (second_at bs at).whole;
+      first = (found_at bs at).word;
+      second = (second_at bs at).word;
       third = 0;
     }
 
-abbrev pub lineFrom : List ℕ → ℕ → Piece
-lineFrom bs at =
+abbrev pub line_from : List ℕ → ℕ → Piece
+line_from bs at =
     record {
-      any = (foundAt bs at).whole;
-      whole = (thirdAt bs at).whole;
-      first = (foundAt bs at).word;
-      second = (secondAt bs at).word;
-      third = (thirdAt bs at).word;
+      any = (found_at bs at).whole;
+      whole = (third_at bs at).whole;
+      first = (found_at bs at).word;
+      second = (second_at bs at).word;
+      third = (third_at bs at).word;
     }
 
-abbrev pub pieceFrom : List ℕ → ℕ → Bool → Piece
-pieceFrom bs at line = cond line (lineFrom bs at) (headFrom bs at)
+abbrev pub piece_from : List ℕ → ℕ → Bool → Piece
+piece_from bs at line = cond line (line_from bs at) (head_from bs at)

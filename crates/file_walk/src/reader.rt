@@ -2,7 +2,7 @@
 // further on; a block's head is two steps of one reader, a line three.
 // The functions over it are thin: `found_at`, on a slice and a number, does the decoding, and callers without a reader use `piece_from`.
 ghost use Rattle.std.specs.Prelude.{◌≡◌};
-ghost use Rattle.file_walk.specs.Read.{foundAt, takenBy, twoBy, threeBy, pieceBy, pieceFrom};
+ghost use Rattle.file_walk.specs.Read.{found_at, taken_by, two_by, three_by, piece_by, piece_from};
 
 #[derive(Drop)]
 pub struct Reader<'a> {
@@ -44,7 +44,7 @@ pub struct TakenPiece<'a> {
 
 // The work: what stands at a byte of a slice.
 pub fn found_at(bytes: &[u8], at: usize) -> Found
-    ensures { result ≡ foundAt bytes.now at }
+    ensures { result ≡ found_at bytes.now at }
 {
     let size = bytes.len();
     if size < 4 {
@@ -84,7 +84,7 @@ pub fn come<'a>(r: Reader<'a>) -> usize
 
 // The next word, and the reader past it; at the end none, and the reader where it was.
 pub fn take<'a>(r: Reader<'a>) -> Taken<'a>
-    ensures { result ≡ takenBy r.entry }
+    ensures { result ≡ taken_by r.entry }
 {
     let found = found_at(r.bytes, r.at);
     Taken {
@@ -99,7 +99,7 @@ pub fn take<'a>(r: Reader<'a>) -> Taken<'a>
 
 // A block's head: two steps.
 pub fn take_two<'a>(r: Reader<'a>) -> TakenPiece<'a>
-    ensures { result ≡ twoBy r.entry }
+    ensures { result ≡ two_by r.entry }
 {
     let one = take(r);
     let two = take(one.reader);
@@ -117,7 +117,7 @@ pub fn take_two<'a>(r: Reader<'a>) -> TakenPiece<'a>
 
 // A line: three steps.
 pub fn take_three<'a>(r: Reader<'a>) -> TakenPiece<'a>
-    ensures { result ≡ threeBy r.entry }
+    ensures { result ≡ three_by r.entry }
 {
     let two = take_two(r);
     let three = take(two.reader);
@@ -135,7 +135,7 @@ pub fn take_three<'a>(r: Reader<'a>) -> TakenPiece<'a>
 
 // A head, or a line.
 pub fn take_piece<'a>(r: Reader<'a>, line: bool) -> TakenPiece<'a>
-    ensures { result ≡ pieceBy r.entry line }
+    ensures { result ≡ piece_by r.entry line }
 {
     if line {
         return take_three(r);
@@ -145,7 +145,7 @@ pub fn take_piece<'a>(r: Reader<'a>, line: bool) -> TakenPiece<'a>
 
 // The head or the line that a reader of these bytes takes at a byte. Its parameters are plain, so that callers need no reader.
 pub fn piece_from(bytes: &[u8], at: usize, line: bool) -> Piece
-    ensures { result ≡ pieceFrom bytes.now at line }
+    ensures { result ≡ piece_from bytes.now at line }
 {
     let taken = take_piece(new(bytes, at), line);
     taken.piece

@@ -1,7 +1,7 @@
 // Internal: a walk of a file's bytes, block head by block head and line by line. A caller meets each `requires`.
 ghost use Rattle.std.specs.Prelude.{◌≡◌, true, ◌+◌, ◌≤◌, length};
-ghost use Rattle.rules.specs.DayFile.{isHead, is_line, isShaped, words_of};
-ghost use Rattle.file_walk.specs.Walk.{start, isMore, headAt, pastStep, line_at, formPast, passedOn};
+ghost use Rattle.rules.specs.DayFile.{is_head, is_line, is_shaped, words_of};
+ghost use Rattle.file_walk.specs.Walk.{start, is_more, head_at, past_step, line_at, form_past, passed_on};
 
 use crate::reader::{Piece, Reader};
 use crate::{Cursor, Line, reader};
@@ -37,7 +37,7 @@ pub fn begin() -> Cursor
 // Whether the next head or line is whole.
 pub fn more(file: &[u8], c: Cursor) -> bool
     requires { c.at ≤ length file.now }
-    ensures { result ≡ isMore file.now c }
+    ensures { result ≡ is_more file.now c }
 {
     let at = c.at;
     let rest = file.len() - at;
@@ -47,7 +47,7 @@ pub fn more(file: &[u8], c: Cursor) -> bool
 // The cursor past the block's head at a byte.
 pub fn head_at(file: &[u8], at: usize) -> Cursor
     requires { at + 8 ≤ length file.now }
-    ensures { result ≡ headAt file.now at }
+    ensures { result ≡ head_at file.now at }
 {
     let head = reader::piece_from(file, at, false);
     let first = head.first % KIND;
@@ -83,8 +83,8 @@ pub fn line_at(file: &[u8], c: Cursor) -> Line
 
 // One head or line further.
 pub fn advance(file: &[u8], c: Cursor) -> Cursor
-    requires { isMore file.now c ≡ true }
-    ensures { result ≡ pastStep file.now c }
+    requires { is_more file.now c ≡ true }
+    ensures { result ≡ past_step file.now c }
 {
     let at = c.at;
     if c.left == 0 {
@@ -99,7 +99,7 @@ pub fn advance(file: &[u8], c: Cursor) -> Cursor
 }
 
 fn head_ok(head: Piece) -> bool
-    ensures { result ≡ isHead head.first head.second }
+    ensures { result ≡ is_head head.first head.second }
 {
     (head.first / KIND == 1) & (head.second / KIND == 2)
 }
@@ -118,7 +118,7 @@ fn line_ok(line: Piece) -> bool
 
 // The form past a head or a line: kinds right, and no spare or status bit set. A file may end only where a block has ended.
 fn form_past(form: Form, piece: Piece) -> Form
-    ensures { result ≡ formPast form piece }
+    ensures { result ≡ form_past form piece }
 {
     let left = form.left;
     if left == 0 {
@@ -139,7 +139,7 @@ fn form_past(form: Form, piece: Piece) -> Form
 
 // One head or line further, by the pass's own reader.
 fn pass_on<'a>(p: Pass<'a>) -> Pass<'a>
-    ensures { result ≡ passedOn p.entry }
+    ensures { result ≡ passed_on p.entry }
 {
     let form = p.form;
     let taken = reader::take_piece(p.reader, form.left != 0);
@@ -151,7 +151,7 @@ fn pass_on<'a>(p: Pass<'a>) -> Pass<'a>
 
 // Whether the bytes are whole blocks: one reader from the first word to the last, one head or line after the other.
 pub fn shaped(file: &[u8]) -> bool
-    ensures { result ≡ isShaped 0 (words_of file.now) }
+    ensures { result ≡ is_shaped 0 (words_of file.now) }
 {
     let mut pass = Pass {
         reader: reader::new(file, 0),

@@ -14,42 +14,42 @@ use Rattle.numbers.specs.Causes.{unless}
 use Rattle.numbers.proofs.TestLaws.{every_holds}
 use Rattle.numbers.proofs.CauseLaws.{unless-zero, clear-all}
 use Rattle.rules.specs.Entry.{key_of}
-use Rattle.rules.specs.Words.{values, types, counterparties, statusUnit, lowAmounts, word, value_of, typeBits}
-use Rattle.rules.specs.DayFile.{parties, highAmounts, line, linesIn, partyIn, isHead, is_line, itemsFrom}
+use Rattle.rules.specs.Words.{values, types, counterparties, status_unit, low_amounts, word, value_of, type_bits}
+use Rattle.rules.specs.DayFile.{parties, high_amounts, line, lines_in, party_in, is_head, is_line, items_from}
 use Rattle.rules.proofs.WordLaws.{word-kind, word_value}
 use Rattle.file_writer.specs.declared.HeadWords.{HeadWords}
 use Rattle.file_writer.specs.declared.LineWords.{LineWords}
 use Rattle.word_bytes.specs.Coding.{word_at}
-use Rattle.file_writer.specs.Write.{block_lines, headFits, headWords, lineFits, lineWords, bytes_at, putCause, putWords}
+use Rattle.file_writer.specs.Write.{block_lines, head_fits, head_words, line_fits, line_words, bytes_at, put_cause, put_words}
 
 -- whether the figures of a head, and of a line, fit their bits
-abbrev headTests : ℕ → ℕ → ℕ → List Bool
-headTests p d n = ltb p parties ∷ ltb d values ∷ ltb n block_lines ∷ []
+abbrev head_tests : ℕ → ℕ → ℕ → List Bool
+head_tests p d n = ltb p parties ∷ ltb d values ∷ ltb n block_lines ∷ []
 
-abbrev lineTests : ℕ → ℕ → ℕ → List Bool
-lineTests t c a = ltb t types ∷ ltb c counterparties ∷ ltb a (lowAmounts * highAmounts) ∷ []
+abbrev line_tests : ℕ → ℕ → ℕ → List Bool
+line_tests t c a = ltb t types ∷ ltb c counterparties ∷ ltb a (low_amounts * high_amounts) ∷ []
 
-pub head_in : (p d n : ℕ) → every (headTests p d n) ≡ true → (p < parties) × (d < values) × (n < block_lines)
+pub head_in : (p d n : ℕ) → every (head_tests p d n) ≡ true → (p < parties) × (d < values) × (n < block_lines)
 head_in p d n e =
-    let h = every_holds (headTests p d n) e in
+    let h = every_holds (head_tests p d n) e in
     (ltb-true p parties h.0, ltb-true d values h.1.0, ltb-true n block_lines h.1.1.0)
 
-pub line-in : (t c a : ℕ) → every (lineTests t c a) ≡ true → (t < types) × (c < counterparties) × (a < lowAmounts * highAmounts)
+pub line-in : (t c a : ℕ) → every (line_tests t c a) ≡ true → (t < types) × (c < counterparties) × (a < low_amounts * high_amounts)
 line-in t c a e =
-    let h = every_holds (lineTests t c a) e in
-    (ltb-true t types h.0, ltb-true c counterparties h.1.0, ltb-true a (lowAmounts * highAmounts) h.1.1.0)
+    let h = every_holds (line_tests t c a) e in
+    (ltb-true t types h.0, ltb-true c counterparties h.1.0, ltb-true a (low_amounts * high_amounts) h.1.1.0)
 
 -- a head that was written is a head, and its figures are read back
 pub record HeadBack (p d n : ℕ) : Type 0 where
-  pub is-head : isHead (headWords p d n).first (headWords p d n).second ≡ true
-  pub party : partyIn (headWords p d n).first ≡ p
-  pub lines : linesIn (headWords p d n).first ≡ n
-  pub day : value_of (headWords p d n).second ≡ d
+  pub is-head : is_head (head_words p d n).first (head_words p d n).second ≡ true
+  pub party : party_in (head_words p d n).first ≡ p
+  pub lines : lines_in (head_words p d n).first ≡ n
+  pub day : value_of (head_words p d n).second ≡ d
 
-pub head-back : (p d n : ℕ) → (headWords p d n).answer ≡ 0 → HeadBack p d n
-unfolding headWords headFits
+pub head-back : (p d n : ℕ) → (head_words p d n).answer ≡ 0 → HeadBack p d n
+unfolding head_words head_fits
 head-back p d n e =
-    let f = unless-zero (every (headTests p d n)) 11 (clear-all (unless (every (headTests p d n)) 12 ∷ []) e).0 in
+    let f = unless-zero (every (head_tests p d n)) 11 (clear-all (unless (every (head_tests p d n)) 12 ∷ []) e).0 in
     let h = head_in p d n f in
     let k = word-kind 1 (p + n * parties) (omega arith) in
     let v = word_value 1 (p + n * parties) (omega arith) in
@@ -62,30 +62,30 @@ head-back p d n e =
 
 -- a line that was written is a line, and is read back as the item it was
 pub record LineBack (t c a : ℕ) : Type 0 where
-  pub is-line : is_line (lineWords t c a).figures (lineWords t c a).low (lineWords t c a).high ≡ true
-  pub reads : (n p d : ℕ) (ws : List ℕ) → itemsFrom (suc n) p d ((lineWords t c a).figures ∷ (lineWords t c a).low ∷ (lineWords t c a).high ∷ ws) ≡ line (key_of p d t c) a ∷ itemsFrom n p d ws
+  pub is-line : is_line (line_words t c a).figures (line_words t c a).low (line_words t c a).high ≡ true
+  pub reads : (n p d : ℕ) (ws : List ℕ) → items_from (suc n) p d ((line_words t c a).figures ∷ (line_words t c a).low ∷ (line_words t c a).high ∷ ws) ≡ line (key_of p d t c) a ∷ items_from n p d ws
 
-pub line-back : (t c a : ℕ) → (lineWords t c a).answer ≡ 0 → LineBack t c a
-unfolding lineWords lineFits itemsFrom
+pub line-back : (t c a : ℕ) → (line_words t c a).answer ≡ 0 → LineBack t c a
+unfolding line_words line_fits items_from
 line-back t c a e =
-    let f = unless-zero (every (lineTests t c a)) 11 (clear-all (unless (every (lineTests t c a)) 12 ∷ []) e).0 in
+    let f = unless-zero (every (line_tests t c a)) 11 (clear-all (unless (every (line_tests t c a)) 12 ∷ []) e).0 in
     let h = line-in t c a f in
-    let k = word-kind 3 (typeBits t c 0) (omega arith) in
-    let v = word_value 3 (typeBits t c 0) (omega arith) in
-    let type : typeBits t c 0 % types ≡ t = omega arith in
-    let party : typeBits t c 0 / types ≡ c = omega arith in
-    let top : a / lowAmounts < highAmounts = omega arith in
-    let amount : a % lowAmounts + a / lowAmounts * lowAmounts ≡ a = omega arith in
-    let low = word_value 4 (a % lowAmounts) (omega arith) in
-    let high = word_value 5 (a / lowAmounts) (omega arith) in
+    let k = word-kind 3 (type_bits t c 0) (omega arith) in
+    let v = word_value 3 (type_bits t c 0) (omega arith) in
+    let type : type_bits t c 0 % types ≡ t = omega arith in
+    let party : type_bits t c 0 / types ≡ c = omega arith in
+    let top : a / low_amounts < high_amounts = omega arith in
+    let amount : a % low_amounts + a / low_amounts * low_amounts ≡ a = omega arith in
+    let low = word_value 4 (a % low_amounts) (omega arith) in
+    let high = word_value 5 (a / low_amounts) (omega arith) in
     record {
-      is-line = rw (f, k, v, word-kind 4 (a % lowAmounts) (omega arith), word-kind 5 (a / lowAmounts) (omega arith), high, lt-ltb (typeBits t c 0) statusUnit (omega arith), lt-ltb (a / lowAmounts) highAmounts top);
+      is-line = rw (f, k, v, word-kind 4 (a % low_amounts) (omega arith), word-kind 5 (a / low_amounts) (omega arith), high, lt-ltb (type_bits t c 0) status_unit (omega arith), lt-ltb (a / low_amounts) high_amounts top);
       reads = λ n p d ws. rw (f, v, low, high, type, party, amount);
     }
 
 -- a word that was written is read back
-pub put_in : (lent at : ℕ) → putCause lent at ≡ 0 → at + 4 ≤ lent
-unfolding putCause
+pub put_in : (lent at : ℕ) → put_cause lent at ≡ 0 → at + 4 ≤ lent
+unfolding put_cause
 put_in lent at e =
     leb-true (at + 4) lent (unless-zero (leb (at + 4) lent) 10 (clear-all (unless (leb (at + 4) lent) 11 ∷ []) e).0)
 
@@ -124,32 +124,32 @@ module _ (bs : List ℕ) (at a b c d : ℕ) (h : at + 4 ≤ length bs) where
   unfolding word_at
   word-of-four = rw (byte-0, byte-1, byte-2, byte-3)
 
-pub word_back : (bs : List ℕ) (at w : ℕ) → putCause (length bs) at ≡ 0 → word_at (putWords bs at w) at ≡ w
-unfolding putWords bytes_at
+pub word_back : (bs : List ℕ) (at w : ℕ) → put_cause (length bs) at ≡ 0 → word_at (put_words bs at w) at ≡ w
+unfolding put_words bytes_at
 word_back bs at w e =
     rw e (word-of-four bs at (w % 256) (w / 256 % 256) (w / 65536 % 256) (w / 16777216) (put_in (length bs) at e) ∙ bytes-sum w)
 
 -- what the code answers, by its test
 module _ (p d n : ℕ) where
-  abbrev fitsHead : Bool
-  fitsHead = every (headTests p d n)
+  abbrev fits_head : Bool
+  fits_head = every (head_tests p d n)
 
-  pub head-refused : not fitsHead ≡ true → ◌≡◌ {A = HeadWords} (record { answer = 12; first = 0; second = 0 }) (headWords p d n)
-  unfolding headWords headFits
-  head-refused e = rw (not-true fitsHead e)
+  pub head-refused : not fits_head ≡ true → ◌≡◌ {A = HeadWords} (record { answer = 12; first = 0; second = 0 }) (head_words p d n)
+  unfolding head_words head_fits
+  head-refused e = rw (not-true fits_head e)
 
-  pub head-written : not fitsHead ≡ false → ◌≡◌ {A = HeadWords} (record { answer = 0; first = word 1 (p + n * parties); second = word 2 d }) (headWords p d n)
-  unfolding headWords headFits
-  head-written e = rw (not-false fitsHead e)
+  pub head-written : not fits_head ≡ false → ◌≡◌ {A = HeadWords} (record { answer = 0; first = word 1 (p + n * parties); second = word 2 d }) (head_words p d n)
+  unfolding head_words head_fits
+  head-written e = rw (not-false fits_head e)
 
 module _ (t c a : ℕ) where
-  abbrev fitsLine : Bool
-  fitsLine = every (lineTests t c a)
+  abbrev fits_line : Bool
+  fits_line = every (line_tests t c a)
 
-  pub line_refused : not fitsLine ≡ true → ◌≡◌ {A = LineWords} (record { answer = 12; figures = 0; low = 0; high = 0 }) (lineWords t c a)
-  unfolding lineWords lineFits
-  line_refused e = rw (not-true fitsLine e)
+  pub line_refused : not fits_line ≡ true → ◌≡◌ {A = LineWords} (record { answer = 12; figures = 0; low = 0; high = 0 }) (line_words t c a)
+  unfolding line_words line_fits
+  line_refused e = rw (not-true fits_line e)
 
-  pub line-written : not fitsLine ≡ false → ◌≡◌ {A = LineWords} (record { answer = 0; figures = word 3 (t + c * types); low = word 4 (a % lowAmounts); high = word 5 (a / lowAmounts) }) (lineWords t c a)
-  unfolding lineWords lineFits
-  line-written e = rw (not-false fitsLine e, add-zero (t + c * types))
+  pub line-written : not fits_line ≡ false → ◌≡◌ {A = LineWords} (record { answer = 0; figures = word 3 (t + c * types); low = word 4 (a % low_amounts); high = word 5 (a / low_amounts) }) (line_words t c a)
+  unfolding line_words line_fits
+  line-written e = rw (not-false fits_line e, add-zero (t + c * types))

@@ -1,6 +1,6 @@
 // The writer's side of a day file: a block's head and a line as words, and a word as bytes.
 ghost use Rattle.std.specs.Prelude.{◌≡◌, length};
-ghost use Rattle.file_writer.specs.Write.{headWords, lineWords, putCause, putWords};
+ghost use Rattle.file_writer.specs.Write.{head_words, line_words, put_cause, put_words};
 
 use rules::causes::{BAD_FIGURE, BAD_LENGTH};
 use rules::layout::{
@@ -28,7 +28,7 @@ pub struct LineWords {
 }
 
 pub fn head_words(party: u32, day: u32, lines: u32) -> HeadWords
-    ensures { result ≡ headWords party day lines }
+    ensures { result ≡ head_words party day lines }
 {
     let fits = (party < PARTIES) & (day < KIND) & (lines < LINES);
     if !fits {
@@ -46,7 +46,7 @@ pub fn head_words(party: u32, day: u32, lines: u32) -> HeadWords
 }
 
 pub fn line_words(entry_type: u32, counterparty: u32, amount: u64) -> LineWords
-    ensures { result ≡ lineWords entry_type counterparty amount }
+    ensures { result ≡ line_words entry_type counterparty amount }
 {
     let fits = (entry_type < TYPES) & (counterparty < COUNTERPARTIES) & (amount < AMOUNTS);
     if !fits {
@@ -67,8 +67,8 @@ pub fn line_words(entry_type: u32, counterparty: u32, amount: u64) -> LineWords
 
 // Writes a word's four bytes at a place, lowest first; refused by 11 where they are not within the slice.
 pub fn put_word(file: &mut [u8], at: usize, word: u32) -> u32
-    ensures answer { result ≡ putCause (length file.old) at }
-    ensures words { file.new ≡ putWords file.old at word }
+    ensures answer { result ≡ put_cause (length file.old) at }
+    ensures words { file.new ≡ put_words file.old at word }
 {
     if file.len() < 4 {
         return BAD_LENGTH;

@@ -5,17 +5,17 @@ use Rattle.std.specs.Prelude.{Bool, true, false, not, cond, ◌&&◌, ◌||◌, 
 use Rattle.std.proofs.Math.IntN.{sub_ℕ}
 use Rattle.numbers.specs.Sums.{total}
 use Rattle.numbers.specs.Tests.{every}
-use Rattle.numbers.specs.Causes.{unless, or_else, first_of, ifDone}
-use Rattle.rules.specs.Refusals.{notABook, badFile, badParty, badDay, badType, badCounterparty, badAmount, dayClosed, noRoom, noEntry, badFigure}
-use Rattle.rules.specs.Entry.{Key, Record, key, mostVolume, mostMoney, within, updatedProgram, isMoney, partyOk, dayOk, counterpartyOk, statusOk, markOk}
-use Rattle.rules.specs.Words.{Frame, frame_of, statusUnit, kind_of, value_of, kind_at, decode, entries, countOf, coefficientOf, toleranceOf, roomIn, mostCoefficient, mostTolerance}
-use Rattle.rules.specs.Book.{shutTo, withdrawRefusal, entry_at, noRead, read_of}
-use Rattle.rules.specs.Balance.{Volume, dayAhead, delivery, sum_of, boughtBy, sumNo, acquired, saleSide, coverSide, isDetected}
-use Rattle.rules.specs.Collateral.{figuresOk, collateralOf, refusedCollateral}
-use Rattle.rules.specs.Control.{Parties, controlRefusal}
-use Rattle.rules.specs.DayFile.{Item, line, empty_block, highAmounts, mostBytes, words_of, isHead, linesIn, items, itemCause, lines_of}
+use Rattle.numbers.specs.Causes.{unless, or_else, first_of, if_done}
+use Rattle.rules.specs.Refusals.{not_a_book, bad_file, bad_party, bad_day, bad_type, bad_counterparty, bad_amount, day_closed, no_room, no_entry, bad_figure}
+use Rattle.rules.specs.Entry.{Key, Record, key, most_volume, most_money, within, updated_program, is_money, party_ok, day_ok, counterparty_ok, status_ok, mark_ok}
+use Rattle.rules.specs.Words.{Frame, frame_of, status_unit, kind_of, value_of, kind_at, decode, entries, count_of, coefficient_of, tolerance_of, room_in, most_coefficient, most_tolerance}
+use Rattle.rules.specs.Book.{shut_to, withdraw_refusal, entry_at, no_read, read_of}
+use Rattle.rules.specs.Balance.{Volume, day_ahead, delivery, sum_of, bought_by, sum_no, acquired, sale_side, cover_side, is_detected}
+use Rattle.rules.specs.Collateral.{figures_ok, collateral_of, refused_collateral}
+use Rattle.rules.specs.Control.{Parties, control_refusal}
+use Rattle.rules.specs.DayFile.{Item, line, empty_block, high_amounts, most_bytes, words_of, is_head, lines_in, items, item_cause, lines_of}
 use Rattle.rules.specs.Machine.{Machine}
-use Rattle.rules.specs.Calls.{Change, post, withdraw, control, file, Figures, bookMachine}
+use Rattle.rules.specs.Calls.{Change, post, withdraw, control, file, Figures, book_machine}
 use Rattle.case_figures.specs.declared.Case.{Case}
 use Rattle.rules.specs.declared.Counted.{Counted}
 use Rattle.rules.specs.declared.EntryRead.{EntryRead}
@@ -43,161 +43,161 @@ until02 = record { money = 10000000000000; high = 65536; updates = false }
 
 -- today's
 abbrev pub present : Copy
-present = record { money = mostMoney; high = highAmounts; updates = true }
+present = record { money = most_money; high = high_amounts; updates = true }
 
 -- checks 3 to 7 of a post (01, 'Entry types')
-abbrev pub isTypeBy : Copy → ℕ → Bool
-isTypeBy c t = (within 1 16 t || (c.updates && eqb t updatedProgram)) || isMoney t
+abbrev pub is_type_by : Copy → ℕ → Bool
+is_type_by c t = (within 1 16 t || (c.updates && eqb t updated_program)) || is_money t
 
-unfoldable pub limitBy : Copy → ℕ → ℕ
-limitBy c t = cond (isMoney t) c.money mostVolume
+unfoldable pub limit_by : Copy → ℕ → ℕ
+limit_by c t = cond (is_money t) c.money most_volume
 
-unfoldable pub faultBy : Copy → Key → ℕ → ℕ
-faultBy c k a =
+unfoldable pub fault_by : Copy → Key → ℕ → ℕ
+fault_by c k a =
     first_of
-    (unless (partyOk k.party) badParty
-    ∷ unless (dayOk k.day) badDay
-    ∷ unless (isTypeBy c k.type) badType
-    ∷ unless (counterpartyOk k) badCounterparty
-    ∷ unless (leb a (limitBy c k.type)) badAmount
+    (unless (party_ok k.party) bad_party
+    ∷ unless (day_ok k.day) bad_day
+    ∷ unless (is_type_by c k.type) bad_type
+    ∷ unless (counterparty_ok k) bad_counterparty
+    ∷ unless (leb a (limit_by c k.type)) bad_amount
     ∷ [])
 
 -- what is a book (01, 'The words')
-unfoldable pub legalBy : Copy → Record → Bool
-legalBy c r = (eqb (faultBy c (key r) r.amount) 0 && statusOk r.label) || markOk r
+unfoldable pub legal_by : Copy → Record → Bool
+legal_by c r = (eqb (fault_by c (key r) r.amount) 0 && status_ok r.label) || mark_ok r
 
-unfoldable pub entryOkBy : Copy → List ℕ → Bool
-entryOkBy c ws = every (kind_at ws 0 1 ∷ kind_at ws 1 2 ∷ kind_at ws 2 3 ∷ kind_at ws 3 4 ∷ kind_at ws 4 5 ∷ legalBy c (decode ws) ∷ [])
+unfoldable pub entry_ok_by : Copy → List ℕ → Bool
+entry_ok_by c ws = every (kind_at ws 0 1 ∷ kind_at ws 1 2 ∷ kind_at ws 2 3 ∷ kind_at ws 3 4 ∷ kind_at ws 4 5 ∷ legal_by c (decode ws) ∷ [])
 
-unfoldable pub entriesOkBy : Copy → ℕ → List ℕ → Bool
-entriesOkBy c zero ws = true
-entriesOkBy c (suc n) ws = entryOkBy c ws && entriesOkBy c n (drop 5 ws)
+unfoldable pub entries_ok_by : Copy → ℕ → List ℕ → Bool
+entries_ok_by c zero ws = true
+entries_ok_by c (suc n) ws = entry_ok_by c ws && entries_ok_by c n (drop 5 ws)
 
-unfoldable pub isBookBy : Copy → List ℕ → Bool
-isBookBy c ws =
+unfoldable pub is_book_by : Copy → List ℕ → Bool
+is_book_by c ws =
     every
     (leb 3 (length ws)
     ∷ kind_at ws 0 6
     ∷ kind_at ws 1 7
     ∷ kind_at ws 2 8
-    ∷ leb (coefficientOf ws) mostCoefficient
-    ∷ leb (toleranceOf ws) mostTolerance
-    ∷ leb (countOf ws) (roomIn (length ws))
-    ∷ entriesOkBy c (countOf ws) (drop 3 ws)
+    ∷ leb (coefficient_of ws) most_coefficient
+    ∷ leb (tolerance_of ws) most_tolerance
+    ∷ leb (count_of ws) (room_in (length ws))
+    ∷ entries_ok_by c (count_of ws) (drop 3 ws)
     ∷ [])
 
 -- what is a file, and why a line or an empty block is refused (01, 'Day file')
-abbrev pub isLineBy : Copy → ℕ → ℕ → ℕ → Bool
-isLineBy c w x y =
+abbrev pub is_line_by : Copy → ℕ → ℕ → ℕ → Bool
+is_line_by c w x y =
     every
     (eqb (kind_of w) 3
-    ∷ ltb (value_of w) statusUnit
+    ∷ ltb (value_of w) status_unit
     ∷ eqb (kind_of x) 4
     ∷ eqb (kind_of y) 5
     ∷ ltb (value_of y) c.high
     ∷ [])
 
-unfoldable pub isShapedBy : Copy → ℕ → List ℕ → Bool
-isShapedBy c zero [] = true
-isShapedBy c zero (w ∷ []) = false
-isShapedBy c zero (w ∷ x ∷ ws) = isHead w x && isShapedBy c (linesIn w) ws
-isShapedBy c (suc n) [] = false
-isShapedBy c (suc n) (w ∷ []) = false
-isShapedBy c (suc n) (w ∷ x ∷ []) = false
-isShapedBy c (suc n) (w ∷ x ∷ y ∷ ws) = isLineBy c w x y && isShapedBy c n ws
+unfoldable pub is_shaped_by : Copy → ℕ → List ℕ → Bool
+is_shaped_by c zero [] = true
+is_shaped_by c zero (w ∷ []) = false
+is_shaped_by c zero (w ∷ x ∷ ws) = is_head w x && is_shaped_by c (lines_in w) ws
+is_shaped_by c (suc n) [] = false
+is_shaped_by c (suc n) (w ∷ []) = false
+is_shaped_by c (suc n) (w ∷ x ∷ []) = false
+is_shaped_by c (suc n) (w ∷ x ∷ y ∷ ws) = is_line_by c w x y && is_shaped_by c n ws
 
-unfoldable pub isFileBy : Copy → List ℕ → Bool
-isFileBy c bs = every (leb (length bs) mostBytes ∷ eqb (length bs % 4) 0 ∷ isShapedBy c 0 (words_of bs) ∷ [])
+unfoldable pub is_file_by : Copy → List ℕ → Bool
+is_file_by c bs = every (leb (length bs) most_bytes ∷ eqb (length bs % 4) 0 ∷ is_shaped_by c 0 (words_of bs) ∷ [])
 
-unfoldable pub itemCauseBy : Copy → List Record → Item → ℕ
-itemCauseBy c rs (line k a) = first_of (faultBy c k a ∷ unless (not (shutTo k rs)) dayClosed ∷ [])
-itemCauseBy c rs (empty_block p d) = itemCause rs (empty_block p d)
+unfoldable pub item_cause_by : Copy → List Record → Item → ℕ
+item_cause_by c rs (line k a) = first_of (fault_by c k a ∷ unless (not (shut_to k rs)) day_closed ∷ [])
+item_cause_by c rs (empty_block p d) = item_cause rs (empty_block p d)
 
 -- the calls that change a book (01, 'Why a call comes back'): the causes of then; figures and records left are today's.
--- Of balances only control reads one, by `detectedBy` below, which is today's for all records (`detects` of Promise)
-unfoldable pub refusalBy : Copy → Frame → List Record → Change → ℕ
-refusalBy c f rs (post k a) =
-    first_of (faultBy c k a ∷ unless (not (shutTo k rs)) dayClosed ∷ unless (ltb (length rs) f.room) noRoom ∷ [])
-refusalBy c f rs (withdraw n) = withdrawRefusal rs n
-refusalBy c f rs (control d) = controlRefusal f rs d
-refusalBy c f rs (file bs) =
+-- Of balances only control reads one, by `detected_by` below, which is today's for all records (`detects` of Promise)
+unfoldable pub refusal_by : Copy → Frame → List Record → Change → ℕ
+refusal_by c f rs (post k a) =
+    first_of (fault_by c k a ∷ unless (not (shut_to k rs)) day_closed ∷ unless (ltb (length rs) f.room) no_room ∷ [])
+refusal_by c f rs (withdraw n) = withdraw_refusal rs n
+refusal_by c f rs (control d) = control_refusal f rs d
+refusal_by c f rs (file bs) =
     first_of
-    (unless (isFileBy c bs) badFile
-    ∷ first_of (map (itemCauseBy c rs) (items bs))
-    ∷ unless (leb (length rs + length (lines_of (items bs))) f.room) noRoom
+    (unless (is_file_by c bs) bad_file
+    ∷ first_of (map (item_cause_by c rs) (items bs))
+    ∷ unless (leb (length rs + length (lines_of (items bs))) f.room) no_room
     ∷ [])
 
-abbrev pub machineBy : Copy → Machine (List ℕ) Change Figures
-machineBy c =
+abbrev pub machine_by : Copy → Machine (List ℕ) Change Figures
+machine_by c =
     record {
-      cause = λ ws call. or_else (unless (isBookBy c ws) notABook) (refusalBy c (frame_of ws) (entries ws) call);
-      figures = bookMachine.figures;
-      done = bookMachine.done;
+      cause = λ ws call. or_else (unless (is_book_by c ws) not_a_book) (refusal_by c (frame_of ws) (entries ws) call);
+      figures = book_machine.figures;
+      done = book_machine.done;
     }
 
 -- the tally and the balances of then (01, 'The two balances'): without type 22 sixteen sums, and sum 12 in either cover
-abbrev pub volumesBy : Bool → List ℕ
-volumesBy updates =
-    (1 ∷ 2 ∷ 3 ∷ 4 ∷ 5 ∷ 6 ∷ 7 ∷ 8 ∷ 9 ∷ 10 ∷ 11 ∷ 12 ∷ 13 ∷ 14 ∷ 15 ∷ 16 ∷ []) ++ cond updates (updatedProgram ∷ []) []
+abbrev pub volumes_by : Bool → List ℕ
+volumes_by updates =
+    (1 ∷ 2 ∷ 3 ∷ 4 ∷ 5 ∷ 6 ∷ 7 ∷ 8 ∷ 9 ∷ 10 ∷ 11 ∷ 12 ∷ 13 ∷ 14 ∷ 15 ∷ 16 ∷ []) ++ cond updates (updated_program ∷ []) []
 
-unfoldable pub tallyOfBy : Bool → ℕ → ℕ → List Record → Tally
-tallyOfBy updates p d rs = record { party = p; sums = map (λ t. sum_of p d t rs) (volumesBy updates) }
+unfoldable pub tally_of_by : Bool → ℕ → ℕ → List Record → Tally
+tally_of_by updates p d rs = record { party = p; sums = map (λ t. sum_of p d t rs) (volumes_by updates) }
 
-abbrev pub noTallyBy : Bool → Tally
-noTallyBy updates = record { party = 0; sums = replicate (length (volumesBy updates)) 0 }
+abbrev pub no_tally_by : Bool → Tally
+no_tally_by updates = record { party = 0; sums = replicate (length (volumes_by updates)) 0 }
 
-abbrev pub coverUntil02 : Volume → List ℕ
-coverUntil02 delivery = 7 ∷ 8 ∷ 9 ∷ 10 ∷ 11 ∷ 12 ∷ 13 ∷ 14 ∷ []
-coverUntil02 dayAhead = 7 ∷ 9 ∷ 10 ∷ 12 ∷ 13 ∷ 14 ∷ []
+abbrev pub cover_until02 : Volume → List ℕ
+cover_until02 delivery = 7 ∷ 8 ∷ 9 ∷ 10 ∷ 11 ∷ 12 ∷ 13 ∷ 14 ∷ []
+cover_until02 day_ahead = 7 ∷ 9 ∷ 10 ∷ 12 ∷ 13 ∷ 14 ∷ []
 
-unfoldable pub coverSideBy : Bool → Volume → Tally → ℕ → ℕ
-coverSideBy true v t B = coverSide v t B
-coverSideBy false v t B = total (sumNo t) (coverUntil02 v) + acquired t B
+unfoldable pub cover_side_by : Bool → Volume → Tally → ℕ → ℕ
+cover_side_by true v t B = cover_side v t B
+cover_side_by false v t B = total (sum_no t) (cover_until02 v) + acquired t B
 
-unfoldable pub formulaBy : Bool → Volume → ℕ → ℕ → Tally → ℕ → ℤ
-formulaBy updates v R TM t B = sub_ℕ (100 * saleSide v t) (max (100 * TM) (coverSideBy updates v t B * R))
+unfoldable pub formula_by : Bool → Volume → ℕ → ℕ → Tally → ℕ → ℤ
+formula_by updates v R TM t B = sub_ℕ (100 * sale_side v t) (max (100 * TM) (cover_side_by updates v t B * R))
 
-unfoldable pub balanceOn : Bool → Volume → ℕ → ℕ → ℕ → ℕ → List Record → ℤ
-balanceOn updates v R TM p d rs = formulaBy updates v R TM (tallyOfBy updates p d rs) (boughtBy p d rs)
+unfoldable pub balance_on : Bool → Volume → ℕ → ℕ → ℕ → ℕ → List Record → ℤ
+balance_on updates v R TM p d rs = formula_by updates v R TM (tally_of_by updates p d rs) (bought_by p d rs)
 
 -- whom a control of then detects (01, 'Control of a day')
-unfoldable pub detectedBy : Copy → ℕ → ℕ → ℕ → List Record → Parties
-detectedBy c R TM d rs p = partyOk p && isDetected (balanceOn c.updates dayAhead R TM p d rs)
+unfoldable pub detected_by : Copy → ℕ → ℕ → ℕ → List Record → Parties
+detected_by c R TM d rs p = party_ok p && is_detected (balance_on c.updates day_ahead R TM p d rs)
 
 -- the calls that only read: the causes of then, and the figures of the records
-unfoldable pub askedBy : Copy → List ℕ → ℕ → ℕ → ℕ
-askedBy c ws p d =
-    first_of (unless (isBookBy c ws) notABook ∷ unless (partyOk p) badParty ∷ unless (dayOk d) badDay ∷ [])
+unfoldable pub asked_by : Copy → List ℕ → ℕ → ℕ → ℕ
+asked_by c ws p d =
+    first_of (unless (is_book_by c ws) not_a_book ∷ unless (party_ok p) bad_party ∷ unless (day_ok d) bad_day ∷ [])
 
-unfoldable pub balanceBy : Copy → Volume → List ℕ → ℕ → ℕ → BalanceAnswer
-balanceBy c v ws p d =
+unfoldable pub balance_by : Copy → Volume → List ℕ → ℕ → ℕ → BalanceAnswer
+balance_by c v ws p d =
     record {
-      answer = askedBy c ws p d;
-      balance = ifDone (askedBy c ws p d) (balanceOn c.updates v (coefficientOf ws) (toleranceOf ws) p d (entries ws)) (pos 0);
+      answer = asked_by c ws p d;
+      balance = if_done (asked_by c ws p d) (balance_on c.updates v (coefficient_of ws) (tolerance_of ws) p d (entries ws)) (pos 0);
     }
 
-unfoldable pub tallyBy : Copy → List ℕ → ℕ → ℕ → TallyAnswer
-tallyBy c ws p d =
+unfoldable pub tally_by : Copy → List ℕ → ℕ → ℕ → TallyAnswer
+tally_by c ws p d =
     record {
-      answer = askedBy c ws p d;
-      tally = ifDone (askedBy c ws p d) (tallyOfBy c.updates p d (entries ws)) (noTallyBy c.updates);
-      bought = ifDone (askedBy c ws p d) (boughtBy p d (entries ws)) 0;
+      answer = asked_by c ws p d;
+      tally = if_done (asked_by c ws p d) (tally_of_by c.updates p d (entries ws)) (no_tally_by c.updates);
+      bought = if_done (asked_by c ws p d) (bought_by p d (entries ws)) 0;
     }
 
-unfoldable pub caseCauseBy : Copy → List ℕ → Case → ℕ
-caseCauseBy c ws k = first_of (askedBy c ws k.asked.party k.asked.day ∷ unless (figuresOk k) badFigure ∷ [])
+unfoldable pub case_cause_by : Copy → List ℕ → Case → ℕ
+case_cause_by c ws k = first_of (asked_by c ws k.asked.party k.asked.day ∷ unless (figures_ok k) bad_figure ∷ [])
 
-unfoldable pub collateralBy : Copy → List ℕ → Case → Collateral
-collateralBy c ws k = ifDone (caseCauseBy c ws k) (collateralOf k (entries ws)) (refusedCollateral (caseCauseBy c ws k))
+unfoldable pub collateral_by : Copy → List ℕ → Case → Collateral
+collateral_by c ws k = if_done (case_cause_by c ws k) (collateral_of k (entries ws)) (refused_collateral (case_cause_by c ws k))
 
-unfoldable pub countCauseBy : Copy → List ℕ → ℕ
-countCauseBy c ws = first_of (unless (isBookBy c ws) notABook ∷ [])
+unfoldable pub count_cause_by : Copy → List ℕ → ℕ
+count_cause_by c ws = first_of (unless (is_book_by c ws) not_a_book ∷ [])
 
-unfoldable pub countBy : Copy → List ℕ → Counted
-countBy c ws = record { answer = countCauseBy c ws; count = ifDone (countCauseBy c ws) (countOf ws) 0 }
+unfoldable pub count_by : Copy → List ℕ → Counted
+count_by c ws = record { answer = count_cause_by c ws; count = if_done (count_cause_by c ws) (count_of ws) 0 }
 
-unfoldable pub readCauseBy : Copy → List ℕ → ℕ → ℕ
-readCauseBy c ws n = first_of (unless (isBookBy c ws) notABook ∷ unless (ltb n (countOf ws)) noEntry ∷ [])
+unfoldable pub read_cause_by : Copy → List ℕ → ℕ → ℕ
+read_cause_by c ws n = first_of (unless (is_book_by c ws) not_a_book ∷ unless (ltb n (count_of ws)) no_entry ∷ [])
 
-unfoldable pub entryBy : Copy → List ℕ → ℕ → EntryRead
-entryBy c ws n = ifDone (readCauseBy c ws n) (read_of (entry_at ws n)) (noRead (readCauseBy c ws n))
+unfoldable pub entry_by : Copy → List ℕ → ℕ → EntryRead
+entry_by c ws n = if_done (read_cause_by c ws n) (read_of (entry_at ws n)) (no_read (read_cause_by c ws n))

@@ -1,11 +1,11 @@
 // A book in lent bytes: open, post, withdraw.
 ghost use Rattle.std.specs.Prelude.{◌≡◌, length};
 ghost use Rattle.rules.specs.Entry.{key_of};
-ghost use Rattle.rules.specs.Refusals.{notABook};
-ghost use Rattle.rules.specs.Book.{openCause, openWords, openDefaultCause, openDefaultWords};
-ghost use Rattle.rules.specs.Calls.{causeOf, wordsAfter, postAnswer};
+ghost use Rattle.rules.specs.Refusals.{not_a_book};
+ghost use Rattle.rules.specs.Book.{open_cause, open_words, open_default_cause, open_default_words};
+ghost use Rattle.rules.specs.Calls.{cause_of, words_after, post_answer};
 ghost use Rattle.rules.specs.Calls as calls;
-ghost use Rattle.word_bytes.specs.Bytes.{onWords, with_words};
+ghost use Rattle.word_bytes.specs.Bytes.{on_words, with_words};
 
 use byte_changes::Request;
 use rules::{Key, Posted};
@@ -13,8 +13,8 @@ use rules::{Key, Posted};
 // Opens a book with coefficient R in hundredths and tolerance amount TM in kWh.
 #[unsafe(no_mangle)]
 pub extern "C" fn fanzsoreb_open(book: &mut [u8], coefficient: u32, tolerance: u32) -> u32
-    ensures answer { result ≡ onWords book.old (λ ws. openCause (length ws) coefficient tolerance) notABook }
-    ensures bytes { book.new ≡ with_words book.old (λ ws. openWords ws coefficient tolerance) }
+    ensures answer { result ≡ on_words book.old (λ ws. open_cause (length ws) coefficient tolerance) not_a_book }
+    ensures bytes { book.new ≡ with_words book.old (λ ws. open_words ws coefficient tolerance) }
 {
     byte_openings::open(book, coefficient, tolerance)
 }
@@ -22,8 +22,8 @@ pub extern "C" fn fanzsoreb_open(book: &mut [u8], coefficient: u32, tolerance: u
 // Opens a book with the figures of an opening that names none.
 #[unsafe(no_mangle)]
 pub extern "C" fn fanzsoreb_open_default(book: &mut [u8]) -> u32
-    ensures answer { result ≡ onWords book.old (λ ws. openDefaultCause (length ws)) notABook }
-    ensures bytes { book.new ≡ with_words book.old openDefaultWords }
+    ensures answer { result ≡ on_words book.old (λ ws. open_default_cause (length ws)) not_a_book }
+    ensures bytes { book.new ≡ with_words book.old open_default_words }
 {
     byte_openings::open_default(book)
 }
@@ -38,8 +38,8 @@ pub extern "C" fn fanzsoreb_post(
     counterparty: u32,
     amount: u64,
 ) -> Posted
-    ensures answer { result ≡ onWords book.old (λ ws. postAnswer ws (key_of party day entry_type counterparty) amount) (record { answer = notABook; number = 0 }) }
-    ensures bytes { book.new ≡ with_words book.old (λ ws. wordsAfter ws (calls.post (key_of party day entry_type counterparty) amount)) }
+    ensures answer { result ≡ on_words book.old (λ ws. post_answer ws (key_of party day entry_type counterparty) amount) (record { answer = not_a_book; number = 0 }) }
+    ensures bytes { book.new ≡ with_words book.old (λ ws. words_after ws (calls.post (key_of party day entry_type counterparty) amount)) }
 {
     let key = Key {
         party,
@@ -57,8 +57,8 @@ pub extern "C" fn fanzsoreb_post(
 // Gives the entry of this number status 1.
 #[unsafe(no_mangle)]
 pub extern "C" fn fanzsoreb_withdraw(book: &mut [u8], number: u32) -> u32
-    ensures answer { result ≡ onWords book.old (λ ws. causeOf ws (calls.withdraw number)) notABook }
-    ensures bytes { book.new ≡ with_words book.old (λ ws. wordsAfter ws (calls.withdraw number)) }
+    ensures answer { result ≡ on_words book.old (λ ws. cause_of ws (calls.withdraw number)) not_a_book }
+    ensures bytes { book.new ≡ with_words book.old (λ ws. words_after ws (calls.withdraw number)) }
 {
     let done = byte_changes::change(book, Request::Withdraw(number));
     done.answer

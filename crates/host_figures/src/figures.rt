@@ -1,9 +1,9 @@
 // Calls on numbers alone.
 ghost use Rattle.std.specs.Prelude.{◌≡◌, ◌+◌, ◌*◌};
-ghost use Rattle.rules.specs.Balance.{isDetected};
-ghost use Rattle.rules.specs.Ceiling.{ceilingAnswer};
-ghost use Rattle.rules.specs.FirstDay.{firstDayAnswer};
-ghost use Rattle.word_bytes.specs.Bytes.{yesNo};
+ghost use Rattle.rules.specs.Balance.{is_detected};
+ghost use Rattle.rules.specs.Ceiling.{ceiling_answer};
+ghost use Rattle.rules.specs.FirstDay.{first_day_answer};
+ghost use Rattle.word_bytes.specs.Bytes.{yes_no};
 
 use rules::{CeilingAnswer, FirstDayAnswer};
 
@@ -26,7 +26,7 @@ pub extern "C" fn fanzsoreb_ceiling(
     futures: u32,
     capacity: u32,
 ) -> CeilingAnswer
-    ensures { result ≡ ceilingAnswer offer bilateral futures capacity }
+    ensures { result ≡ ceiling_answer offer bilateral futures capacity }
 {
     ceiling::ceiling(offer, bilateral, futures, capacity)
 }
@@ -34,7 +34,7 @@ pub extern "C" fn fanzsoreb_ceiling(
 // 12, or the first day of a month of the years 2000 to 2399 (02, T-08).
 #[unsafe(no_mangle)]
 pub extern "C" fn fanzsoreb_first_day(month: u32) -> FirstDayAnswer
-    ensures { result ≡ firstDayAnswer month }
+    ensures { result ≡ first_day_answer month }
 {
     first_day::first_day(month)
 }
@@ -42,7 +42,7 @@ pub extern "C" fn fanzsoreb_first_day(month: u32) -> FirstDayAnswer
 // 1 if a balance is detected, else 0.
 #[unsafe(no_mangle)]
 pub extern "C" fn fanzsoreb_detected(balance: i64) -> u32
-    ensures { result ≡ yesNo (isDetected balance) }
+    ensures { result ≡ yes_no (is_detected balance) }
 {
     position::detected(balance) as u32
 }

@@ -1,7 +1,7 @@
 // The month step, on bytes and on words (document 01, 'Month step').
 ghost use Rattle.std.specs.Prelude.{◌≡◌};
-ghost use Rattle.rules.specs.Month.{tables_of, monthAnswer};
-ghost use Rattle.month_bytes.specs.Tables.{monthOnBytes};
+ghost use Rattle.rules.specs.Month.{tables_of, month_answer};
+ghost use Rattle.month_bytes.specs.Tables.{month_on_bytes};
 
 use rules::MonthAnswer;
 
@@ -14,7 +14,7 @@ pub extern "C" fn fanzsoreb_month(
     dm: &[u8],
     group: u32,
 ) -> MonthAnswer
-    ensures { result ≡ monthOnBytes prices.now imbalance.now rows dm.now group }
+    ensures { result ≡ month_on_bytes prices.now imbalance.now rows dm.now group }
 {
     month_bytes::month_on(prices, imbalance, rows, dm, group)
 }
@@ -28,7 +28,7 @@ pub extern "C" fn fanzsoreb_month_words(
     dm: &[i32],
     group: u32,
 ) -> MonthAnswer
-    ensures { result ≡ monthAnswer (tables_of prices.now imbalance.now rows dm.now group) }
+    ensures { result ≡ month_answer (tables_of prices.now imbalance.now rows dm.now group) }
 {
     month_step::month_step(prices, imbalance, rows, dm, group)
 }

@@ -1,8 +1,8 @@
 // Collateral on a book in lent bytes and the figures of a case (document 01, 'Collateral').
 ghost use Rattle.std.specs.Prelude.{◌≡◌};
-ghost use Rattle.rules.specs.Refusals.{notABook};
-ghost use Rattle.rules.specs.Collateral.{collateralAnswer, refusedCollateral};
-ghost use Rattle.word_bytes.specs.Bytes.{onWords};
+ghost use Rattle.rules.specs.Refusals.{not_a_book};
+ghost use Rattle.rules.specs.Collateral.{collateral_answer, refused_collateral};
+ghost use Rattle.word_bytes.specs.Bytes.{on_words};
 ghost use Rattle.collateral_case.specs.Cases.{case_of};
 
 use byte_reports::collaterals;
@@ -33,7 +33,7 @@ pub extern "C" fn fanzsoreb_collateral(
     score: u32,
     best: u32,
 ) -> Collateral
-    ensures { result ≡ onWords book.now (λ ws. collateralAnswer ws (case_of party day licence capacity nonbusiness holiday defaults responsible aosmf1 aedm1 aosmf2 aedm2 aosmf3 aedm3 used rk rt yt score best)) (refusedCollateral notABook) }
+    ensures { result ≡ on_words book.now (λ ws. collateral_answer ws (case_of party day licence capacity nonbusiness holiday defaults responsible aosmf1 aedm1 aosmf2 aedm2 aosmf3 aedm3 used rk rt yt score best)) (refused_collateral not_a_book) }
 {
     let case = collateral_case::case_of(
         party,

@@ -1,8 +1,8 @@
 // The month report on a book in lent bytes (document 02, T-01).
 ghost use Rattle.std.specs.Prelude.{◌≡◌};
-ghost use Rattle.rules.specs.Refusals.{notABook};
-ghost use Rattle.rules.specs.MonthReport.{monthReport, refusedReport};
-ghost use Rattle.word_bytes.specs.Bytes.{onWords};
+ghost use Rattle.rules.specs.Refusals.{not_a_book};
+ghost use Rattle.rules.specs.MonthReport.{month_report, refused_report};
+ghost use Rattle.word_bytes.specs.Bytes.{on_words};
 
 use byte_reports::reports;
 use rules::MonthReport;
@@ -10,7 +10,7 @@ use rules::MonthReport;
 // All parties' sums of each day of a month and type, and the month's totals.
 #[unsafe(no_mangle)]
 pub extern "C" fn fanzsoreb_month_report(book: &[u8], month: u32) -> MonthReport
-    ensures { result ≡ onWords book.now (λ ws. monthReport ws month) (refusedReport notABook) }
+    ensures { result ≡ on_words book.now (λ ws. month_report ws month) (refused_report not_a_book) }
 {
     reports::report(book, month)
 }

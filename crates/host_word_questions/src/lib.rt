@@ -1,11 +1,11 @@
 // The calls for hosts in C that only read a book of words, where it lies. A host owes 4-byte alignment.
 ghost use Rattle.std.specs.Prelude.{◌≡◌};
-ghost use Rattle.rules.specs.Words.{isBook};
-ghost use Rattle.rules.specs.Book.{countAnswer, readAnswer};
-ghost use Rattle.rules.specs.Balance.{tallyAnswer, balanceAnswer, dayAhead, delivery};
-ghost use Rattle.rules.specs.Collateral.{collateralAnswer};
-ghost use Rattle.rules.specs.MonthReport.{monthReport};
-ghost use Rattle.word_bytes.specs.Bytes.{yesNo};
+ghost use Rattle.rules.specs.Words.{is_book};
+ghost use Rattle.rules.specs.Book.{count_answer, read_answer};
+ghost use Rattle.rules.specs.Balance.{tally_answer, balance_answer, day_ahead, delivery};
+ghost use Rattle.rules.specs.Collateral.{collateral_answer};
+ghost use Rattle.rules.specs.MonthReport.{month_report};
+ghost use Rattle.word_bytes.specs.Bytes.{yes_no};
 ghost use Rattle.collateral_case.specs.Cases.{case_of};
 
 use rules::{BalanceAnswer, Collateral, Counted, EntryRead, MonthReport, TallyAnswer};
@@ -13,7 +13,7 @@ use rules::{BalanceAnswer, Collateral, Counted, EntryRead, MonthReport, TallyAns
 // 1 if the words are a book, else 0.
 #[unsafe(no_mangle)]
 pub extern "C" fn fanzsoreb_is_book_words(book: &[u32]) -> u32
-    ensures { result ≡ yesNo (isBook book.now) }
+    ensures { result ≡ yes_no (is_book book.now) }
 {
     book::is_book(book) as u32
 }
@@ -21,7 +21,7 @@ pub extern "C" fn fanzsoreb_is_book_words(book: &[u32]) -> u32
 // The number of entries, of every status.
 #[unsafe(no_mangle)]
 pub extern "C" fn fanzsoreb_count_words(book: &[u32]) -> Counted
-    ensures { result ≡ countAnswer book.now }
+    ensures { result ≡ count_answer book.now }
 {
     book::count(book)
 }
@@ -29,7 +29,7 @@ pub extern "C" fn fanzsoreb_count_words(book: &[u32]) -> Counted
 // One entry by its number.
 #[unsafe(no_mangle)]
 pub extern "C" fn fanzsoreb_entry_words(book: &[u32], number: u32) -> EntryRead
-    ensures { result ≡ readAnswer book.now number }
+    ensures { result ≡ read_answer book.now number }
 {
     book::entry(book, number)
 }
@@ -37,7 +37,7 @@ pub extern "C" fn fanzsoreb_entry_words(book: &[u32], number: u32) -> EntryRead
 // The seventeen sums of a party's day and B.
 #[unsafe(no_mangle)]
 pub extern "C" fn fanzsoreb_tally_words(book: &[u32], party: u32, day: u32) -> TallyAnswer
-    ensures { result ≡ tallyAnswer book.now party day }
+    ensures { result ≡ tally_answer book.now party day }
 {
     position::tally(book, party, day)
 }
@@ -45,7 +45,7 @@ pub extern "C" fn fanzsoreb_tally_words(book: &[u32], party: u32, day: u32) -> T
 // The day-ahead balance, in hundredths of a kWh (document 004, Article 7).
 #[unsafe(no_mangle)]
 pub extern "C" fn fanzsoreb_day_ahead_words(book: &[u32], party: u32, day: u32) -> BalanceAnswer
-    ensures { result ≡ balanceAnswer dayAhead book.now party day }
+    ensures { result ≡ balance_answer day_ahead book.now party day }
 {
     position::day_ahead(book, party, day)
 }
@@ -53,7 +53,7 @@ pub extern "C" fn fanzsoreb_day_ahead_words(book: &[u32], party: u32, day: u32) 
 // The delivery balance, in hundredths of a kWh (document 004, Article 5).
 #[unsafe(no_mangle)]
 pub extern "C" fn fanzsoreb_delivery_words(book: &[u32], party: u32, day: u32) -> BalanceAnswer
-    ensures { result ≡ balanceAnswer delivery book.now party day }
+    ensures { result ≡ balance_answer delivery book.now party day }
 {
     position::delivery(book, party, day)
 }
@@ -83,7 +83,7 @@ pub extern "C" fn fanzsoreb_collateral_words(
     score: u32,
     best: u32,
 ) -> Collateral
-    ensures { result ≡ collateralAnswer book.now (case_of party day licence capacity nonbusiness holiday defaults responsible aosmf1 aedm1 aosmf2 aedm2 aosmf3 aedm3 used rk rt yt score best) }
+    ensures { result ≡ collateral_answer book.now (case_of party day licence capacity nonbusiness holiday defaults responsible aosmf1 aedm1 aosmf2 aedm2 aosmf3 aedm3 used rk rt yt score best) }
 {
     let case = collateral_case::case_of(
         party,
@@ -113,7 +113,7 @@ pub extern "C" fn fanzsoreb_collateral_words(
 // All parties' sums of each day of a month and type, and the month's totals.
 #[unsafe(no_mangle)]
 pub extern "C" fn fanzsoreb_month_report_words(book: &[u32], month: u32) -> MonthReport
-    ensures { result ≡ monthReport book.now month }
+    ensures { result ≡ month_report book.now month }
 {
     month_report::month_report(book, month)
 }

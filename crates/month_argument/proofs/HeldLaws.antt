@@ -14,63 +14,63 @@ use borrow.Author.Tests.{ltb-true, ltb-false, ne_eqb}
 use Rattle.numbers.specs.Tests.{every, all}
 use Rattle.numbers.proofs.TestLaws.{bool_cases}
 use Rattle.calendar.specs.Calendar.{months}
-use Rattle.month_argument.specs.Argument.{isDigit, isDigits, numberFrom, number_of, monthNamed}
-use Rattle.month_argument.specs.Held.{heldAfter, heldFrom}
+use Rattle.month_argument.specs.Argument.{is_digit, is_digits, number_from, number_of, month_named}
+use Rattle.month_argument.specs.Held.{held_after, held_from}
 
 -- more digits make no smaller number
-grows : (bs : List ℕ) (n : ℕ) → n ≤ numberFrom n bs
-unfolding numberFrom
+grows : (bs : List ℕ) (n : ℕ) → n ≤ number_from n bs
+unfolding number_from
 grows [] n = le_refl n
 grows (b ∷ bs) n = le_trans (omega arith) (grows bs (10 * n + (b - 48)))
 
 -- a number may be held before more digits come
-hold : (bs : List ℕ) (n : ℕ) → min (numberFrom (min n months) bs) months ≡ min (numberFrom n bs) months
-unfolding numberFrom
+hold : (bs : List ℕ) (n : ℕ) → min (number_from (min n months) bs) months ≡ min (number_from n bs) months
+unfolding number_from
 hold [] n = omega arith
 hold (b ∷ bs) n =
     let e : min (10 * min n months + (b - 48)) months ≡ min (10 * n + (b - 48)) months = omega arith in
     sym (hold bs (10 * min n months + (b - 48))) ∙ rw e (hold bs (10 * n + (b - 48)))
 
 -- 1,200 stays 1,200
-held-full : (bs : List ℕ) → heldFrom months bs ≡ months
-unfolding heldFrom
-held-full bs = go (all isDigit bs)
+held-full : (bs : List ℕ) → held_from months bs ≡ months
+unfolding held_from
+held-full bs = go (all is_digit bs)
   where
-    go : (d : Bool) → cond d (min (numberFrom months bs) months) months ≡ months
+    go : (d : Bool) → cond d (min (number_from months bs) months) months ≡ months
     go true = omega (arith, grows bs months)
     go false = refl
 
-held-step : (n b : ℕ) (bs : List ℕ) → heldFrom n (b ∷ bs) ≡ heldFrom (heldAfter n b) bs
-unfolding heldFrom heldAfter all numberFrom
+held-step : (n b : ℕ) (bs : List ℕ) → held_from n (b ∷ bs) ≡ held_from (held_after n b) bs
+unfolding held_from held_after all number_from
 held-step n b bs =
-    elim (bool_cases (isDigit b)) [
+    elim (bool_cases (is_digit b)) [
       | inl e ↦ rw (e, hold bs (10 * n + (b - 48)))
       | inr e ↦ rw e (sym (held-full bs))
     ]
 
 -- the bytes from a place on: one of them, or none
-pub held_next : (bs : List ℕ) (i n : ℕ) → i < length bs → heldFrom n (drop i bs) ≡ heldFrom (heldAfter n (get_or bs i 0)) (drop (i + 1) bs)
+pub held_next : (bs : List ℕ) (i n : ℕ) → i < length bs → held_from n (drop i bs) ≡ held_from (held_after n (get_or bs i 0)) (drop (i + 1) bs)
 held_next bs i n h = rw (add-one i, drop-cons bs i 0 h) (held-step n (get_or bs i 0) (drop (suc i) bs))
 
-pub held-end : (bs : List ℕ) (i n : ℕ) → length bs ≤ i → n ≤ months → heldFrom n (drop i bs) ≡ n
-unfolding heldFrom all numberFrom
+pub held-end : (bs : List ℕ) (i n : ℕ) → length bs ≤ i → n ≤ months → held_from n (drop i bs) ≡ n
+unfolding held_from all number_from
 held-end bs i n h k = rw (drop_of_length-le bs h) (omega arith)
 
-pub held-most : (n b : ℕ) → heldAfter n b ≤ months
-unfolding heldAfter
-held-most n b = go (isDigit b)
+pub held-most : (n b : ℕ) → held_after n b ≤ months
+unfolding held_after
+held-most n b = go (is_digit b)
   where
     go : (d : Bool) → cond d (min (10 * n + (b - 48)) months) months ≤ months
     go true = omega arith
     go false = le_refl months
 
 -- the month by the number of arguments, and by the only one
-pub not-one : (n : ℕ) (bs : List ℕ) → (n ≡ 1 → ⊥) → monthNamed n bs ≡ months
-unfolding monthNamed
+pub not-one : (n : ℕ) (bs : List ℕ) → (n ≡ 1 → ⊥) → month_named n bs ≡ months
+unfolding month_named
 not-one n bs h = rw (ne_eqb n 1 h)
 
-pub empty-one : (bs : List ℕ) → length bs ≡ 0 → monthNamed 1 bs ≡ months
-unfolding monthNamed isDigits
+pub empty-one : (bs : List ℕ) → length bs ≡ 0 → month_named 1 bs ≡ months
+unfolding month_named is_digits
 empty-one [] e = refl
 empty-one (b ∷ bs) e = absurd (omega arith)
 
@@ -81,11 +81,11 @@ below-held n =
       | inr e ↦ rw e (omega (arith, ltb-false n months e))
     ]
 
-pub one-held : (bs : List ℕ) → (length bs ≡ 0 → ⊥) → monthNamed 1 bs ≡ heldFrom 0 bs
-unfolding monthNamed isDigits number_of heldFrom
+pub one-held : (bs : List ℕ) → (length bs ≡ 0 → ⊥) → month_named 1 bs ≡ held_from 0 bs
+unfolding month_named is_digits number_of held_from
 one-held [] h = absurd (h refl)
-one-held (b ∷ bs) h = go (all isDigit (b ∷ bs))
+one-held (b ∷ bs) h = go (all is_digit (b ∷ bs))
   where
-    go : (d : Bool) → cond (every (true ∷ d ∷ ltb (numberFrom 0 (b ∷ bs)) months ∷ [])) (numberFrom 0 (b ∷ bs)) months ≡ cond d (min (numberFrom 0 (b ∷ bs)) months) months
-    go true = below-held (numberFrom 0 (b ∷ bs))
+    go : (d : Bool) → cond (every (true ∷ d ∷ ltb (number_from 0 (b ∷ bs)) months ∷ [])) (number_from 0 (b ∷ bs)) months ≡ cond d (min (number_from 0 (b ∷ bs)) months) months
+    go true = below-held (number_from 0 (b ∷ bs))
     go false = refl

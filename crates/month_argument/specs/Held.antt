@@ -2,12 +2,12 @@
 use Rattle.std.specs.Prelude.{cond, List, ℕ, ◌+◌, ◌-◌, ◌*◌, min}
 use Rattle.numbers.specs.Tests.{all}
 use Rattle.calendar.specs.Calendar.{months}
-use Rattle.month_argument.specs.Argument.{isDigit, numberFrom}
+use Rattle.month_argument.specs.Argument.{is_digit, number_from}
 
 -- after one byte more
-unfoldable pub heldAfter : ℕ → ℕ → ℕ
-heldAfter n b = cond (isDigit b) (min (10 * n + (b - 48)) months) months
+unfoldable pub held_after : ℕ → ℕ → ℕ
+held_after n b = cond (is_digit b) (min (10 * n + (b - 48)) months) months
 
 -- after more bytes
-unfoldable pub heldFrom : ℕ → List ℕ → ℕ
-heldFrom n bs = cond (all isDigit bs) (min (numberFrom n bs) months) months
+unfoldable pub held_from : ℕ → List ℕ → ℕ
+held_from n bs = cond (all is_digit bs) (min (number_from n bs) months) months

@@ -1,8 +1,8 @@
 // The month that the arguments of the program `month` name (02, T-01).
 ghost use Rattle.std.specs.Prelude.{◌≡◌, ◌≤◌, min};
 ghost use Rattle.calendar.specs.Calendar.{months};
-ghost use Rattle.month_argument.specs.Argument.{monthNamed};
-ghost use Rattle.month_argument.specs.Held.{heldAfter, heldFrom};
+ghost use Rattle.month_argument.specs.Argument.{month_named};
+ghost use Rattle.month_argument.specs.Held.{held_after, held_from};
 
 use rules::bounds::MONTHS;
 
@@ -23,7 +23,7 @@ fn held(number: u32) -> u32
 // One byte more: a digit, or none, and then no month is named.
 fn longer(number: u32, byte: u8) -> u32
     requires { number ≤ months }
-    ensures { result ≡ heldAfter number byte }
+    ensures { result ≡ held_after number byte }
 {
     if byte < FIRST_DIGIT {
         return NO_MONTH;
@@ -35,7 +35,7 @@ fn longer(number: u32, byte: u8) -> u32
 }
 
 fn number_held(bytes: &[u8]) -> u32
-    ensures { result ≡ heldFrom 0 bytes.now }
+    ensures { result ≡ held_from 0 bytes.now }
 {
     let mut number: u32 = 0;
     let mut i = 0;
@@ -48,7 +48,7 @@ fn number_held(bytes: &[u8]) -> u32
 
 // Of so many arguments, without the program's name, the only one's bytes; 1,200 where they name no month.
 pub fn month_named(arguments: usize, argument: &[u8]) -> u32
-    ensures { result ≡ monthNamed arguments argument.now }
+    ensures { result ≡ month_named arguments argument.now }
 {
     if arguments != 1 {
         return NO_MONTH;

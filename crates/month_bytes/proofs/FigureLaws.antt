@@ -15,14 +15,14 @@ use Rattle.numbers.proofs.SignedLaws.{sub-below}
 use Rattle.rules.specs.DayFile.{words_of}
 use Rattle.word_bytes.specs.Coding.{word_at}
 use Rattle.word_bytes.proofs.BytesLaws.{length-words, word-at}
-use Rattle.month_bytes.specs.Tables.{signed_of, figuresOf}
+use Rattle.month_bytes.specs.Tables.{signed_of, figures_of}
 
 -- a word less 2^32 where its highest bit is set, in the bits of the code
 module _ (w : ℕ) (f : w < 4294967296) where
-  abbrev pub lessTop : ℤ
-  lessTop = to_z w64 w -ℤ to_z w64 (w / 2147483648 * 4294967296)
+  abbrev pub less_top : ℤ
+  less_top = to_z w64 w -ℤ to_z w64 (w / 2147483648 * 4294967296)
 
-  apart : (w < 2147483648) ⊎ (2147483648 ≤ w) → (lessTop ≡ signed_of w) × SFits w32 (signed_of w)
+  apart : (w < 2147483648) ⊎ (2147483648 ≤ w) → (less_top ≡ signed_of w) × SFits w32 (signed_of w)
   unfolding signed_of
   apart (inl h) =
       let top : w / 2147483648 * 4294967296 ≡ 0 = omega arith in
@@ -32,22 +32,22 @@ module _ (w : ℕ) (f : w < 4294967296) where
       rw (le-ltb w 2147483648 h)
       (rw (top, to_z_pos w64 w (omega arith)) (sub-below w 4294967296 f ∙ ap negsuc (omega arith)), record { sfits = omega arith })
 
-  pub less-top : lessTop ≡ signed_of w
+  pub less-top : less_top ≡ signed_of w
   less-top = (apart (below-or-above w 2147483648)).0
 
   pub signed-fits : SFits w32 (signed_of w)
   signed-fits = (apart (below-or-above w 2147483648)).1
 
-  pub less-fits : SFits w64 lessTop
+  pub less-fits : SFits w64 less_top
   less-fits = rw less-top (record { sfits = omega (arith, signed-fits.sfits) })
 
-  pub less-cast : to_z w64 (of_z w64 lessTop) ≡ signed_of w
-  less-cast = to_z-of_z w64 lessTop less-fits ∙ less-top
+  pub less-cast : to_z w64 (of_z w64 less_top) ≡ signed_of w
+  less-cast = to_z-of_z w64 less_top less-fits ∙ less-top
 
-pub length-figures : (bs : List ℕ) → length (figuresOf bs) ≡ length bs / 4
-unfolding figuresOf
+pub length-figures : (bs : List ℕ) → length (figures_of bs) ≡ length bs / 4
+unfolding figures_of
 length-figures bs = length-map (words_of bs) signed_of ∙ length-words bs
 
-pub figure-at : (bs : List ℕ) (i : ℕ) → 4 * i + 4 ≤ length bs → get_or (figuresOf bs) i (pos 0) ≡ signed_of (word_at bs (4 * i))
-unfolding figuresOf signed_of
+pub figure-at : (bs : List ℕ) (i : ℕ) → 4 * i + 4 ≤ length bs → get_or (figures_of bs) i (pos 0) ≡ signed_of (word_at bs (4 * i))
+unfolding figures_of signed_of
 figure-at bs i h = get_or-map signed_of (words_of bs) i 0 ∙ ap signed_of (word-at bs i h)

@@ -1,9 +1,9 @@
 // The month step on tables in lent bytes, little-endian (document 01, 'Month step').
 ghost use Rattle.std.specs.Prelude.{◌≡◌, ◌&&◌, length};
-ghost use Rattle.rules.specs.Month.{monthAnswer};
+ghost use Rattle.rules.specs.Month.{month_answer};
 ghost use Rattle.month_step.specs.Ranges.{Placed};
-ghost use Rattle.month_bytes.specs.Tables.{tablesIn, refusedMonth, monthOnBytes};
-ghost use Rattle.month_bytes.specs.Parts.{wholeTables, bytesAgree, Hourly};
+ghost use Rattle.month_bytes.specs.Tables.{tables_in, refused_month, month_on_bytes};
+ghost use Rattle.month_bytes.specs.Parts.{whole_tables, bytes_agree, Hourly};
 
 use case_figures::Month;
 use rules::MonthAnswer;
@@ -15,7 +15,7 @@ mod rows;
 
 // Whether the tables' bytes make whole figures, and their numbers agree.
 fn lengths_ok(prices: &[u8], imbalance: &[u8], rows: u32, dm: &[u8]) -> bool
-    ensures { result ≡ wholeTables prices.now imbalance.now dm.now && bytesAgree prices.now imbalance.now rows dm.now }
+    ensures { result ≡ whole_tables prices.now imbalance.now dm.now && bytes_agree prices.now imbalance.now rows dm.now }
 {
     (prices.len() % 4 == 0)
         & (imbalance.len() % 4 == 0)
@@ -30,7 +30,7 @@ fn lengths_ok(prices: &[u8], imbalance: &[u8], rows: u32, dm: &[u8]) -> bool
 
 // A refusal, or the answer for a month without hours.
 fn without_figures(answer: u32) -> MonthAnswer
-    ensures { result ≡ refusedMonth answer }
+    ensures { result ≡ refused_month answer }
 {
     let none = Month { aosmf: 0, aedm: 0 };
     MonthAnswer {
@@ -50,9 +50,9 @@ fn step(
     controls: &mut [i32],
     row: &mut [i32],
 ) -> MonthAnswer
-    requires fact_1 { Placed (tablesIn prices.now imbalance.now rows dm.now group) }
+    requires fact_1 { Placed (tables_in prices.now imbalance.now rows dm.now group) }
     requires fact_2 { Hourly prices.now (length words.old) (length controls.old) (length row.old) }
-    ensures { result ≡ monthAnswer (tablesIn prices.now imbalance.now rows dm.now group) }
+    ensures { result ≡ month_answer (tables_in prices.now imbalance.now rows dm.now group) }
 {
     word_bytes::read_words(prices, words);
     figures::read_figures(dm, 0, controls);
@@ -61,8 +61,8 @@ fn step(
 
 // The same in arrays for the hours of the longest month.
 fn step_hours(prices: &[u8], imbalance: &[u8], rows: u32, dm: &[u8], group: u32) -> MonthAnswer
-    requires { Placed (tablesIn prices.now imbalance.now rows dm.now group) }
-    ensures { result ≡ monthAnswer (tablesIn prices.now imbalance.now rows dm.now group) }
+    requires { Placed (tables_in prices.now imbalance.now rows dm.now group) }
+    ensures { result ≡ month_answer (tables_in prices.now imbalance.now rows dm.now group) }
 {
     let hours = prices.len() / 4;
     let mut words = [0u32; MOST_HOURS];
@@ -82,7 +82,7 @@ fn step_hours(prices: &[u8], imbalance: &[u8], rows: u32, dm: &[u8], group: u32)
 
 // Lengths that do not agree, and rows or a group out of range, are refused before a figure is read.
 pub fn month_on(prices: &[u8], imbalance: &[u8], rows: u32, dm: &[u8], group: u32) -> MonthAnswer
-    ensures { result ≡ monthOnBytes prices.now imbalance.now rows dm.now group }
+    ensures { result ≡ month_on_bytes prices.now imbalance.now rows dm.now group }
 {
     if !lengths_ok(prices, imbalance, rows, dm) {
         return without_figures(BAD_LENGTH);

@@ -1,10 +1,10 @@
 // Internal: the month step with the imbalance in bytes, of which a row at a time is read into a slice (01, 'Month step').
 // A caller meets each `requires`.
 ghost use Rattle.std.specs.Prelude.{◌≡◌, length};
-ghost use Rattle.rules.specs.Month.{tables_of, monthCause, monthFigures, monthAnswer};
+ghost use Rattle.rules.specs.Month.{tables_of, month_cause, month_figures, month_answer};
 ghost use Rattle.month_step.specs.Ranges.{Placed};
-ghost use Rattle.month_step.specs.Rows.{PricedRow, DmRow, rowWeighted, rowWeights, rowVolume};
-ghost use Rattle.month_bytes.specs.Tables.{figuresOf};
+ghost use Rattle.month_step.specs.Rows.{PricedRow, DmRow, row_weighted, row_weights, row_volume};
+ghost use Rattle.month_bytes.specs.Tables.{figures_of};
 
 use crate::figures::{read_figures, volumes_ok};
 use crate::without_figures;
@@ -23,9 +23,9 @@ pub fn answer(
     group: u32,
     row: &mut [i32],
 ) -> MonthAnswer
-    requires fact_1 { Placed (tables_of prices.now (figuresOf imbalance.now) rows dm.now group) }
+    requires fact_1 { Placed (tables_of prices.now (figures_of imbalance.now) rows dm.now group) }
     requires fact_2 { length row.old ≡ length prices.now }
-    ensures { result ≡ monthAnswer (tables_of prices.now (figuresOf imbalance.now) rows dm.now group) }
+    ensures { result ≡ month_answer (tables_of prices.now (figures_of imbalance.now) rows dm.now group) }
 {
     if !(ranges::prices_ok(prices) & volumes_ok(imbalance) & ranges::volumes_ok(dm)) {
         return without_figures(BAD_FIGURE);
@@ -43,9 +43,9 @@ fn figures(
     group: u32,
     row: &mut [i32],
 ) -> Month
-    requires fact_1 { monthCause (tables_of prices.now (figuresOf imbalance.now) rows dm.now group) ≡ 0 }
+    requires fact_1 { month_cause (tables_of prices.now (figures_of imbalance.now) rows dm.now group) ≡ 0 }
     requires fact_2 { length row.old ≡ length prices.now }
-    ensures { result ≡ monthFigures (tables_of prices.now (figuresOf imbalance.now) rows dm.now group) }
+    ensures { result ≡ month_figures (tables_of prices.now (figures_of imbalance.now) rows dm.now group) }
 {
     let hours = prices.len();
     let mut weighted: u64 = 0;
@@ -64,9 +64,9 @@ fn figures(
 
 // Σ|imbalance| × price and Σ|imbalance| of the row that starts at a place of the imbalance.
 fn row_sums(prices: &[u32], imbalance: &[u8], at: usize, row: &mut [i32]) -> Sums
-    requires fact_1 { PricedRow prices.now (figuresOf imbalance.now) at }
+    requires fact_1 { PricedRow prices.now (figures_of imbalance.now) at }
     requires fact_2 { length row.old ≡ length prices.now }
-    ensures { (result.weighted ≡ rowWeighted prices.now (figuresOf imbalance.now) at) × (result.weights ≡ rowWeights prices.now (figuresOf imbalance.now) at) }
+    ensures { (result.weighted ≡ row_weighted prices.now (figures_of imbalance.now) at) × (result.weights ≡ row_weights prices.now (figures_of imbalance.now) at) }
 {
     read_figures(imbalance, at, row);
     month_step::sums::row_sums(prices, row, 0)
@@ -74,9 +74,9 @@ fn row_sums(prices: &[u32], imbalance: &[u8], at: usize, row: &mut [i32]) -> Sum
 
 // Σ(imbalance − DM) of the row that starts at a place of the imbalance.
 fn row_volume(imbalance: &[u8], at: usize, dm: &[i32], row: &mut [i32]) -> i64
-    requires fact_1 { DmRow (figuresOf imbalance.now) at dm.now }
+    requires fact_1 { DmRow (figures_of imbalance.now) at dm.now }
     requires fact_2 { length row.old ≡ length dm.now }
-    ensures { result ≡ rowVolume (figuresOf imbalance.now) at dm.now }
+    ensures { result ≡ row_volume (figures_of imbalance.now) at dm.now }
 {
     read_figures(imbalance, at, row);
     month_step::sums::row_volume(row, 0, dm)

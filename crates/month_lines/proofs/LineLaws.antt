@@ -4,33 +4,33 @@ use mathlib.Core.List.{[], ◌∷◌, ◌++◌}
 use Prim.Native.Nat.{ℕ, ◌≤◌}
 use native.Mathlib.Omega.{arith}
 use lib.ListN.{length, get_or, length-append}
-use Rattle.calendar.specs.Calendar.{months, monthStart, monthLength, daysIn, isLeap}
+use Rattle.calendar.specs.Calendar.{months, month_start, month_length, days_in, is_leap}
 use Rattle.calendar.proofs.MonthLaws.{start-mono, start-end}
 use Rattle.calendar.proofs.MonthTable.{table, table_at}
-use Rattle.text.specs.Text.{digits, decimal, eachFrom}
+use Rattle.text.specs.Text.{digits, decimal, each_from}
 use Rattle.text.proofs.TextLaws.{decimal-below, each_same, each-most}
-use Rattle.month_lines.specs.Lines.{entryLine, tableText}
+use Rattle.month_lines.specs.Lines.{entry_line, table_text}
 
 -- five digits and a line's end
-line-most : (m : ℕ) → m ≤ months → length (entryLine m) ≤ 6
-unfolding entryLine
+line-most : (m : ℕ) → m ≤ months → length (entry_line m) ≤ 6
+unfolding entry_line
 line-most m h =
-    simp length-append (omega (arith, decimal-below 4 (monthStart m) (omega (arith, start-mono m months h, start-end))))
+    simp length-append (omega (arith, decimal-below 4 (month_start m) (omega (arith, start-mono m months h, start-end))))
 
-pub table_fits : length tableText ≤ 7206
-unfolding tableText
-table_fits = each-most entryLine 6 1201 0 (λ m h. line-most m (omega arith))
+pub table_fits : length table_text ≤ 7206
+unfolding table_text
+table_fits = each-most entry_line 6 1201 0 (λ m h. line-most m (omega arith))
 
 -- what is printed is the constant table, entry by entry, and no entry more
-pub text-of-table : tableText ≡ eachFrom (λ k. decimal (get_or table k 0) ++ (10 ∷ [])) (length table) 0
-unfolding tableText entryLine table
+pub text-of-table : table_text ≡ each_from (λ k. decimal (get_or table k 0) ++ (10 ∷ [])) (length table) 0
+unfolding table_text entry_line table
 text-of-table = each_same _ _ 1201 0 (λ k h. ap (λ d. decimal d ++ (10 ∷ [])) (sym (table_at k (omega arith))))
 
 -- figures: March 2000 begins on day 60, the end entry is 36525
-pub line-of-march-2000 : entryLine 2 ≡ 54 ∷ 48 ∷ 10 ∷ []
-unfolding entryLine decimal digits monthStart monthLength daysIn isLeap
-line-of-march-2000 = refl
+pub line_of-march-2000 : entry_line 2 ≡ 54 ∷ 48 ∷ 10 ∷ []
+unfolding entry_line decimal digits month_start month_length days_in is_leap
+line_of-march-2000 = refl
 
-pub line-of-the-end : entryLine months ≡ 51 ∷ 54 ∷ 53 ∷ 50 ∷ 53 ∷ 10 ∷ []
-unfolding entryLine decimal digits monthStart monthLength daysIn isLeap
-line-of-the-end = refl
+pub line_of-the-end : entry_line months ≡ 51 ∷ 54 ∷ 53 ∷ 50 ∷ 53 ∷ 10 ∷ []
+unfolding entry_line decimal digits month_start month_length days_in is_leap
+line_of-the-end = refl

@@ -1,7 +1,7 @@
 // What the program `month_table` prints: the entries of the table of months, from the Gregorian rule (02, T-08).
 ghost use Rattle.io.specs.Counts.{IsPrefixLen};
 ghost use Rattle.text.specs.Text.{Wrote, Whole};
-ghost use Rattle.month_lines.specs.Lines.{tableText};
+ghost use Rattle.month_lines.specs.Lines.{table_text};
 
 use calendar::rule::month_start;
 
@@ -12,7 +12,7 @@ pub const MOST_TEXT: usize = 7206;
 const ENTRIES: u32 = 1201;
 
 fn put_lines(out: &mut [u8]) -> usize
-    ensures { Wrote out.old 0 tableText result out.new }
+    ensures { Wrote out.old 0 table_text result out.new }
 {
     let mut next = 0;
     let mut month = 0;
@@ -25,7 +25,7 @@ fn put_lines(out: &mut [u8]) -> usize
 
 // The whole table, and how many bytes it has.
 pub fn table(out: &mut [u8; MOST_TEXT]) -> usize
-    ensures whole { Whole out.old tableText result out.new }
+    ensures whole { Whole out.old table_text result out.new }
     ensures prefix_len { IsPrefixLen result out.new }
 {
     put_lines(out)

@@ -1,7 +1,7 @@
 // Internal: a month report whose lines go into a lent array, so that its 5,392 bytes are copied once and not by each caller.
 // A caller meets each `requires`.
 ghost use Rattle.std.specs.Prelude.{◌≡◌};
-ghost use Rattle.rules.specs.MonthReport.{reportFigures, refusedReport, monthReport};
+ghost use Rattle.rules.specs.MonthReport.{report_figures, refused_report, month_report};
 ghost use Rattle.cells.specs.Cells.{blank};
 ghost use Rattle.month_report.specs.Heads.{head_of};
 
@@ -21,7 +21,7 @@ pub struct Head {
 }
 
 fn refused_head(cause: u32) -> Head
-    ensures { result ≡ head_of (refusedReport cause) }
+    ensures { result ≡ head_of (refused_report cause) }
 {
     Head {
         answer: cause,
@@ -33,9 +33,9 @@ fn refused_head(cause: u32) -> Head
 
 // The lines are zero before, and stay so where the report is refused.
 pub fn report_into(book: &[u32], month: u32, lines: &mut [u64; REPORT_FIGURES]) -> Head
-    requires { lines.old ≡ blank reportFigures }
-    ensures head { result ≡ head_of (monthReport book.now month) }
-    ensures lines { lines.new ≡ (monthReport book.now month).lines }
+    requires { lines.old ≡ blank report_figures }
+    ensures head { result ≡ head_of (month_report book.now month) }
+    ensures lines { lines.new ≡ (month_report book.now month).lines }
 {
     if !book::is_book(book) {
         return refused_head(NOT_A_BOOK);

@@ -1,6 +1,6 @@
 // The month report: all parties' sums of each day of a month and type, and the month's totals (02, T-01).
 ghost use Rattle.std.specs.Prelude.{◌≡◌};
-ghost use Rattle.rules.specs.MonthReport.{monthReport};
+ghost use Rattle.rules.specs.MonthReport.{month_report};
 
 use rules::{MonthReport, REPORT_FIGURES};
 
@@ -9,7 +9,7 @@ mod lines;
 
 // Causes: 1, then 12 for a month above 1,199. One check of the book, then one pass over its entries.
 pub fn month_report(book: &[u32], month: u32) -> MonthReport
-    ensures { result ≡ monthReport book.now month }
+    ensures { result ≡ month_report book.now month }
 {
     let mut lines = [0u64; REPORT_FIGURES];
     let head = lent::report_into(book, month, &mut lines);

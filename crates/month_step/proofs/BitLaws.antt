@@ -8,7 +8,7 @@ use lib.Signed.{mag, nat_abs-le}
 use mir.Syntax.{w32, w64}
 use mir.Val.{SFits, hbits, to_z, of_z}
 use mir.ValLaws.{to_z-of_z}
-use Rattle.numbers.proofs.SignedLaws.{natAbs-add, natAbs-neg}
+use Rattle.numbers.proofs.SignedLaws.{nat_abs-add, nat_abs-neg}
 
 -- a number, stored in 32 or in 64 bits and read again
 abbrev pub in32 : ℤ → ℤ
@@ -41,7 +41,7 @@ module _ (x y : ℤ) (f : SFits w32 x) (g : SFits w32 y) where
   small : SFits w64 (x -ℤ y)
   small =
       fits64 (x -ℤ y)
-      (omega (arith, natAbs-add x (neg_ℤ y), natAbs-neg y, nat_abs-le x f.sfits, nat_abs-le y g.sfits))
+      (omega (arith, nat_abs-add x (neg_ℤ y), nat_abs-neg y, nat_abs-le x f.sfits, nat_abs-le y g.sfits))
 
   pub less-fits : SFits w64 (in64 (in32 x) -ℤ in64 (in32 y))
   less-fits = rw less small

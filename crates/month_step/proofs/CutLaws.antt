@@ -9,9 +9,9 @@ use lib.IntN.{ℤ, pos, nat_abs, ◌+ℤ◌, ◌-ℤ◌}
 use lib.ListN.{length, get_or, take, drop, length-take, length-drop, get_or-eq_default}
 use lib.Seq.{get_or-take, get_or-drop, length-take-le}
 use Rattle.numbers.specs.Sums.{sum}
-use Rattle.numbers.specs.Signed.{sumℤ}
+use Rattle.numbers.specs.Signed.{sum_ℤ}
 use Rattle.numbers.proofs.TestLaws.{below-or-above}
-use Rattle.month_step.specs.Rows.{PricedRow, DmRow, figureAt, firstWeighted, firstWeights, firstVolume, rowWeighted, rowWeights, rowVolume}
+use Rattle.month_step.specs.Rows.{PricedRow, DmRow, figure_at, first_weighted, first_weights, first_volume, row_weighted, row_weights, row_volume}
 
 -- sums of equal figures, signed or not
 same-sums : {A : Type 0} (sums : ℕ → (ℕ → A) → A) (plus : A → A → A) →
@@ -26,10 +26,10 @@ unfolding sum
 same_sum = same-sums sum ◌+◌ (λ f g. refl) (λ n f. refl)
 
 module _ (imbalance : List ℤ) (at n : ℕ) {row : List ℤ} (e : row ≡ take n (drop at imbalance)) where
-  cut_at : (h : ℕ) → h < n → figureAt row 0 h ≡ figureAt imbalance at h
+  cut_at : (h : ℕ) → h < n → figure_at row 0 h ≡ figure_at imbalance at h
   cut_at h l = rw (e, zero-add h) (get_or-take n (drop at imbalance) h (pos 0) l ∙ get_or-drop at imbalance h (pos 0))
 
-  cut-past : (h : ℕ) → n ≤ h → figureAt row 0 h ≡ pos 0
+  cut-past : (h : ℕ) → n ≤ h → figure_at row 0 h ≡ pos 0
   cut-past h l =
       rw (e, zero-add h) (get_or-eq_default (take n (drop at imbalance)) (pos 0) (omega (arith, length-take n (drop at imbalance))))
 
@@ -47,12 +47,12 @@ module _ (imbalance : List ℤ) (at n : ℕ) {row : List ℤ} (e : row ≡ take 
           volume = λ h. elim (below-or-above h n) [ inl b ↦ rw (cut_at h b) (r.volume h) | inr b ↦ rw (cut-past h b) zero-le ];
         }
 
-    pub weighted-cut : rowWeighted prices row 0 ≡ rowWeighted prices imbalance at
-    unfolding firstWeighted
+    pub weighted-cut : row_weighted prices row 0 ≡ row_weighted prices imbalance at
+    unfolding first_weighted
     weighted-cut = same_sum (length prices) _ _ (λ h b. ap (λ z. nat_abs z * get_or prices h 0) (cut_at h (rw l b)))
 
-    pub weights-cut : rowWeights prices row 0 ≡ rowWeights prices imbalance at
-    unfolding firstWeights
+    pub weights-cut : row_weights prices row 0 ≡ row_weights prices imbalance at
+    unfolding first_weights
     weights-cut = same_sum (length prices) _ _ (λ h b. ap nat_abs (cut_at h (rw l b)))
 
   -- beside DM
@@ -68,7 +68,7 @@ module _ (imbalance : List ℤ) (at n : ℕ) {row : List ℤ} (e : row ≡ take 
           ];
         }
 
-    pub volume-cut : rowVolume row 0 dm ≡ rowVolume imbalance at dm
-    unfolding firstVolume sumℤ
+    pub volume-cut : row_volume row 0 dm ≡ row_volume imbalance at dm
+    unfolding first_volume sum_ℤ
     volume-cut =
-        same-sums sumℤ ◌+ℤ◌ (λ f g. refl) (λ k f. refl) (length dm) _ _ (λ h b. ap (λ z. z -ℤ get_or dm h (pos 0)) (cut_at h (rw l b)))
+        same-sums sum_ℤ ◌+ℤ◌ (λ f g. refl) (λ k f. refl) (length dm) _ _ (λ h b. ap (λ z. z -ℤ get_or dm h (pos 0)) (cut_at h (rw l b)))

@@ -10,18 +10,18 @@ use mir.Syntax.{w64}
 use mir.Val.{SFits}
 use mir.ValLaws.{to_z-of_z}
 use Rattle.numbers.proofs.SumLaws.{sum_step, sum_bound}
-use Rattle.numbers.proofs.SignedLaws.{sumℤ-step, sumℤ-bound}
-use Rattle.month_step.specs.Rows.{PricedRow, DmRow, figureAt, differenceAt, firstWeighted, firstWeights, firstVolume}
+use Rattle.numbers.proofs.SignedLaws.{sum_ℤ-step, sum_ℤ-bound}
+use Rattle.month_step.specs.Rows.{PricedRow, DmRow, figure_at, difference_at, first_weighted, first_weights, first_volume}
 use Rattle.month_step.proofs.BitLaws.{in64, fits64}
 
 -- limits of the sums of n hours
 module _ (prices : List ℕ) (imbalance : List ℤ) (at n : ℕ) (r : PricedRow prices imbalance at) where
-  pub weighted-limit : firstWeighted prices imbalance at n ≤ n * 10000000000000
-  unfolding firstWeighted
+  pub weighted-limit : first_weighted prices imbalance at n ≤ n * 10000000000000
+  unfolding first_weighted
   weighted-limit = sum_bound n _ 10000000000000 (λ h l. mul-le-mul (r.volume h) (r.price h))
 
-  pub weights-limit : firstWeights imbalance at n ≤ n * 10000000
-  unfolding firstWeights
+  pub weights-limit : first_weights imbalance at n ≤ n * 10000000
+  unfolding first_weights
   weights-limit = sum_bound n _ 10000000 (λ h l. r.volume h)
 
 -- an hour more: both sums stay within 64 bits, and are those of the hours so far
@@ -30,14 +30,14 @@ pub record HourPriced (prices : List ℕ) (imbalance : List ℤ) (at h weight we
   pub product : weight * get_or prices h 0 ≤ 10000000000000
   pub added : weighted + weight * get_or prices h 0 ≤ 7460000000000000
   pub counted : weights + weight ≤ 7460000000
-  pub weighted-more : weighted + weight * get_or prices h 0 ≡ firstWeighted prices imbalance at (h + 1)
-  pub weights-more : weights + weight ≡ firstWeights imbalance at (h + 1)
+  pub weighted-more : weighted + weight * get_or prices h 0 ≡ first_weighted prices imbalance at (h + 1)
+  pub weights-more : weights + weight ≡ first_weights imbalance at (h + 1)
 
 pub hour-priced : (prices : List ℕ) (imbalance : List ℤ) (at h : ℕ) {weight weighted weights : ℕ} →
-    PricedRow prices imbalance at → h < length prices → weight ≡ nat_abs (figureAt imbalance at h) →
-    weighted ≡ firstWeighted prices imbalance at h → weights ≡ firstWeights imbalance at h →
+    PricedRow prices imbalance at → h < length prices → weight ≡ nat_abs (figure_at imbalance at h) →
+    weighted ≡ first_weighted prices imbalance at h → weights ≡ first_weights imbalance at h →
     HourPriced prices imbalance at h weight weighted weights
-unfolding firstWeighted firstWeights
+unfolding first_weighted first_weights
 hour-priced prices imbalance at h {weight} r below size e f =
     let small : weight ≤ 10000000 = rw size (r.volume h) in
     let product : weight * get_or prices h 0 ≤ 10000000000000 = mul-le-mul small (r.price h) in
@@ -53,16 +53,16 @@ hour-priced prices imbalance at h {weight} r below size e f =
 -- an hour more: the volume stays within 64 bits, and is that of the hours so far
 pub record HourLess (imbalance : List ℤ) (at : ℕ) (dm : List ℤ) (h : ℕ) (volume less : ℤ) : Type 0 where
   pub added : SFits w64 (volume +ℤ in64 less)
-  pub exact : in64 (volume +ℤ in64 less) ≡ firstVolume imbalance at dm (h + 1)
+  pub exact : in64 (volume +ℤ in64 less) ≡ first_volume imbalance at dm (h + 1)
 
 pub hour-less : (imbalance : List ℤ) (at : ℕ) (dm : List ℤ) (h : ℕ) {volume less : ℤ} → DmRow imbalance at dm → h < length dm →
-    volume ≡ firstVolume imbalance at dm h → less ≡ differenceAt imbalance at dm h → HourLess imbalance at dm h volume less
-unfolding firstVolume
+    volume ≡ first_volume imbalance at dm h → less ≡ difference_at imbalance at dm h → HourLess imbalance at dm h volume less
+unfolding first_volume
 hour-less imbalance at dm h {volume} {less} r below e d =
-    let f : ℕ → ℤ = differenceAt imbalance at dm in
-    let next : ℤ = firstVolume imbalance at dm (h + 1) in
+    let f : ℕ → ℤ = difference_at imbalance at dm in
+    let next : ℤ = first_volume imbalance at dm (h + 1) in
     let same : volume +ℤ in64 less ≡ next =
-    ap₂ ◌+ℤ◌ e (ap in64 d ∙ to_z-of_z w64 (f h) (fits64 (f h) (omega (arith, r.difference h)))) ∙ sym (sumℤ-step h f) in
+    ap₂ ◌+ℤ◌ e (ap in64 d ∙ to_z-of_z w64 (f h) (fits64 (f h) (omega (arith, r.difference h)))) ∙ sym (sum_ℤ-step h f) in
     let fits : SFits w64 next =
-    fits64 next (omega (arith, r.hours, sumℤ-bound (h + 1) f 20000000 (λ k l. r.difference k))) in
+    fits64 next (omega (arith, r.hours, sum_ℤ-bound (h + 1) f 20000000 (λ k l. r.difference k))) in
     record { added = rw same fits; exact = ap in64 same ∙ to_z-of_z w64 next fits }

@@ -2,22 +2,22 @@
 use Rattle.std.specs.Prelude.{◌≡◌, Bool, true, [], ◌∷◌, ℕ, ◌*◌, eqb, leb, ltb, length}
 use Rattle.numbers.specs.Tests.{every}
 use Rattle.rules.specs.Entry.{within}
-use Rattle.rules.specs.Month.{Tables, hours, mostHours, mostRows, mostPrice}
+use Rattle.rules.specs.Month.{Tables, hours, most_hours, most_rows, most_price}
 
-abbrev pub lengthsAgree : ℕ → ℕ → ℕ → ℕ → Bool
-lengthsAgree hours volumes rows dms = every (leb hours mostHours ∷ eqb volumes (rows * hours) ∷ eqb dms hours ∷ [])
+abbrev pub lengths_agree : ℕ → ℕ → ℕ → ℕ → Bool
+lengths_agree hours volumes rows dms = every (leb hours most_hours ∷ eqb volumes (rows * hours) ∷ eqb dms hours ∷ [])
 
 -- the number of groups, and the one asked
-abbrev pub placesOk : ℕ → ℕ → Bool
-placesOk rows group = every (within 1 mostRows rows ∷ ltb group rows ∷ [])
+abbrev pub places_ok : ℕ → ℕ → Bool
+places_ok rows group = every (within 1 most_rows rows ∷ ltb group rows ∷ [])
 
-abbrev pub priceOk : ℕ → Bool
-priceOk price = leb price mostPrice
+abbrev pub price_ok : ℕ → Bool
+price_ok price = leb price most_price
 
 -- tables whose lengths agree, with their rows and the group asked in range
 abbrev pub agree : Tables → Bool
-agree m = lengthsAgree (hours m) (length m.imbalance) m.rows (length m.dm)
+agree m = lengths_agree (hours m) (length m.imbalance) m.rows (length m.dm)
 
 pub record Placed (m : Tables) : Type 0 where
   pub lengths : agree m ≡ true
-  pub places : placesOk m.rows m.group ≡ true
+  pub places : places_ok m.rows m.group ≡ true

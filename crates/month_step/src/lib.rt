@@ -4,7 +4,7 @@ mod sizes;
 pub mod sums;
 
 ghost use Rattle.std.specs.Prelude.{◌≡◌};
-ghost use Rattle.rules.specs.Month.{tables_of, monthAnswer};
+ghost use Rattle.rules.specs.Month.{tables_of, month_answer};
 
 use case_figures::Month;
 use rules::MonthAnswer;
@@ -17,7 +17,7 @@ pub fn month_step(
     dm: &[i32],
     group: u32,
 ) -> MonthAnswer
-    ensures { result ≡ monthAnswer (tables_of prices.now imbalance.now rows dm.now group) }
+    ensures { result ≡ month_answer (tables_of prices.now imbalance.now rows dm.now group) }
 {
     let answer = ranges::cause(prices, imbalance, rows, dm, group);
     if answer != 0 {

@@ -1,8 +1,8 @@
 // Internal: the sums over month tables that no cause refuses (01, 'Month step'). A caller meets each `requires`.
 ghost use Rattle.std.specs.Prelude.{◌≡◌, ◌-ℤ◌};
-ghost use Rattle.numbers.specs.Rounding.{halfUp};
-ghost use Rattle.rules.specs.Month.{tables_of, monthCause, monthFigures};
-ghost use Rattle.month_step.specs.Rows.{PricedRow, DmRow, rowWeighted, rowWeights, rowVolume};
+ghost use Rattle.numbers.specs.Rounding.{half_up};
+ghost use Rattle.rules.specs.Month.{tables_of, month_cause, month_figures};
+ghost use Rattle.month_step.specs.Rows.{PricedRow, DmRow, row_weighted, row_weights, row_volume};
 
 use crate::sizes;
 use case_figures::Month;
@@ -16,8 +16,8 @@ pub struct Sums {
 
 // AOSMF over all rows and AEDM of the group asked.
 pub fn figures(prices: &[u32], imbalance: &[i32], rows: u32, dm: &[i32], group: u32) -> Month
-    requires { monthCause (tables_of prices.now imbalance.now rows dm.now group) ≡ 0 }
-    ensures { result ≡ monthFigures (tables_of prices.now imbalance.now rows dm.now group) }
+    requires { month_cause (tables_of prices.now imbalance.now rows dm.now group) ≡ 0 }
+    ensures { result ≡ month_figures (tables_of prices.now imbalance.now rows dm.now group) }
 {
     let hours = prices.len();
     let mut weighted: u64 = 0;
@@ -37,7 +37,7 @@ pub fn figures(prices: &[u32], imbalance: &[i32], rows: u32, dm: &[i32], group: 
 // Σ|imbalance| × price and Σ|imbalance| of the row that starts at a place of the imbalance.
 pub fn row_sums(prices: &[u32], imbalance: &[i32], at: usize) -> Sums
     requires { PricedRow prices.now imbalance.now at }
-    ensures { (result.weighted ≡ rowWeighted prices.now imbalance.now at) × (result.weights ≡ rowWeights prices.now imbalance.now at) }
+    ensures { (result.weighted ≡ row_weighted prices.now imbalance.now at) × (result.weights ≡ row_weights prices.now imbalance.now at) }
 {
     let mut weighted: u64 = 0;
     let mut weights: u64 = 0;
@@ -53,7 +53,7 @@ pub fn row_sums(prices: &[u32], imbalance: &[i32], at: usize) -> Sums
 
 // The weighted average, halves up; 0 where the weights are 0.
 pub fn average(weighted: u64, weights: u64) -> u64
-    ensures { result ≡ halfUp weighted weights }
+    ensures { result ≡ half_up weighted weights }
 {
     numbers::half_up(weighted, weights)
 }
@@ -61,7 +61,7 @@ pub fn average(weighted: u64, weights: u64) -> u64
 // Σ(imbalance − DM) of the row that starts at a place of the imbalance.
 pub fn row_volume(imbalance: &[i32], at: usize, dm: &[i32]) -> i64
     requires { DmRow imbalance.now at dm.now }
-    ensures { result ≡ rowVolume imbalance.now at dm.now }
+    ensures { result ≡ row_volume imbalance.now at dm.now }
 {
     let mut volume: i64 = 0;
     let mut h = 0;

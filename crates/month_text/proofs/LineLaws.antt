@@ -6,48 +6,48 @@ use native.Mathlib.Numerals.{add-one}
 use native.Mathlib.Omega.{arith}
 use lib.ListN.{length, get_or, drop, drop_of_length-le, length-append, length-take}
 use lib.Seq.{drop-cons}
-use Rattle.numbers.specs.Causes.{ifDone}
-use Rattle.rules.specs.MonthReport.{lineSums}
+use Rattle.numbers.specs.Causes.{if_done}
+use Rattle.rules.specs.MonthReport.{line_sums}
 use Rattle.rules.specs.declared.MonthReport.{MonthReport}
-use Rattle.text.specs.Text.{decimal, eachFrom, refusal}
+use Rattle.text.specs.Text.{decimal, each_from, refusal}
 use Rattle.text.proofs.TextLaws.{decimal-most, refusal-most, each-most}
-use Rattle.month_text.specs.ReportText.{sumsText, lineText, line_at, dayText, reportText, mostText}
+use Rattle.month_text.specs.ReportText.{sums_text, line_text, line_at, day_text, report_text, most_text}
 
-pub sums_next : (xs : List ℕ) (i : ℕ) → i < length xs → sumsText (drop i xs) ≡ (32 ∷ decimal (get_or xs i 0)) ++ sumsText (drop (i + 1) xs)
-unfolding sumsText
+pub sums_next : (xs : List ℕ) (i : ℕ) → i < length xs → sums_text (drop i xs) ≡ (32 ∷ decimal (get_or xs i 0)) ++ sums_text (drop (i + 1) xs)
+unfolding sums_text
 sums_next xs i h = rw (add-one i, drop-cons xs i 0 h)
 
-pub sums-end : (xs : List ℕ) (i : ℕ) → length xs ≤ i → sumsText (drop i xs) ≡ []
-unfolding sumsText
+pub sums-end : (xs : List ℕ) (i : ℕ) → length xs ≤ i → sums_text (drop i xs) ≡ []
+unfolding sums_text
 sums-end xs i h = rw (drop_of_length-le xs h)
 
 -- a sum: a space and at most twenty digits
-sums-most : (xs : List ℕ) → length (sumsText xs) ≤ 21 * length xs
-unfolding sumsText
+sums-most : (xs : List ℕ) → length (sums_text xs) ≤ 21 * length xs
+unfolding sums_text
 sums-most [] = zero-le
-sums-most (x ∷ xs) = rw (length-append (decimal x) (sumsText xs)) (omega (arith, decimal-most x, sums-most xs))
+sums-most (x ∷ xs) = rw (length-append (decimal x) (sums_text xs)) (omega (arith, decimal-most x, sums-most xs))
 
-pub refusal-fits : (c : ℕ) → length (refusal c) ≤ mostText
+pub refusal-fits : (c : ℕ) → length (refusal c) ≤ most_text
 refusal-fits c = omega (arith, refusal-most c)
 
 -- a line: at most twenty digits, twenty-one sums, and the line's end
-line-most : (n : ℕ) (xs : List ℕ) → length xs ≤ lineSums → length (lineText n xs) ≤ 462
-unfolding lineText
+line-most : (n : ℕ) (xs : List ℕ) → length xs ≤ line_sums → length (line_text n xs) ≤ 462
+unfolding line_text
 line-most n xs h = simp length-append (omega (arith, decimal-most n, sums-most xs))
 
-line-at-most : (n : ℕ) (lines : List ℕ) (i : ℕ) → length (lineText n (line_at lines i)) ≤ 462
-line-at-most n lines i = line-most n (line_at lines i) (rw (length-take lineSums (drop (lineSums * i) lines)) (omega arith))
+line_at-most : (n : ℕ) (lines : List ℕ) (i : ℕ) → length (line_text n (line_at lines i)) ≤ 462
+line_at-most n lines i = line-most n (line_at lines i) (rw (length-take line_sums (drop (line_sums * i) lines)) (omega arith))
 
-pub report-most : (r : MonthReport) → r.days ≤ 31 → length (reportText r) ≤ mostText
-unfolding reportText
+pub report-most : (r : MonthReport) → r.days ≤ 31 → length (report_text r) ≤ most_text
+unfolding report_text
 report-most r h = go r.answer
   where
-    go : (c : ℕ) → length (ifDone c (eachFrom (dayText r.first_day r.lines) r.days 0 ++ lineText r.month (line_at r.lines r.days)) (refusal c)) ≤ mostText
+    go : (c : ℕ) → length (if_done c (each_from (day_text r.first_day r.lines) r.days 0 ++ line_text r.month (line_at r.lines r.days)) (refusal c)) ≤ most_text
     go zero =
-        rw (length-append (eachFrom (dayText r.first_day r.lines) r.days 0) (lineText r.month (line_at r.lines r.days)))
+        rw (length-append (each_from (day_text r.first_day r.lines) r.days 0) (line_text r.month (line_at r.lines r.days)))
         (omega (
           arith,
-          each-most (dayText r.first_day r.lines) 462 r.days 0 (λ i l. line-at-most _ r.lines i),
-          line-at-most r.month r.lines r.days,
+          each-most (day_text r.first_day r.lines) 462 r.days 0 (λ i l. line_at-most _ r.lines i),
+          line_at-most r.month r.lines r.days,
         ))
     go (suc c) = refusal-fits (suc c)

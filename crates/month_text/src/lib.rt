@@ -1,8 +1,8 @@
 // Internal: a month report as text (02, T-01). A caller meets each `requires`.
 ghost use Rattle.std.specs.Prelude.{◌+◌, ◌*◌, ◌≤◌, ◌∷◌, ◌++◌, length};
-ghost use Rattle.rules.specs.MonthReport.{lineSums};
-ghost use Rattle.text.specs.Text.{decimal, eachFrom, Wrote};
-ghost use Rattle.month_text.specs.ReportText.{sumsText, lineText, line_at, dayText, reportText};
+ghost use Rattle.rules.specs.MonthReport.{line_sums};
+ghost use Rattle.text.specs.Text.{decimal, each_from, Wrote};
+ghost use Rattle.month_text.specs.ReportText.{sums_text, line_text, line_at, day_text, report_text};
 
 use rules::{LINE_SUMS, MonthReport};
 
@@ -16,7 +16,7 @@ fn put_sum(sum: u64, out: &mut [u8], at: usize) -> usize
 
 fn put_sums(sums: &[u64], out: &mut [u8], at: usize) -> usize
     requires { at ≤ length out.old }
-    ensures { Wrote out.old at (sumsText sums.now) result out.new }
+    ensures { Wrote out.old at (sums_text sums.now) result out.new }
 {
     let mut next = at;
     let mut i = 0;
@@ -29,7 +29,7 @@ fn put_sums(sums: &[u64], out: &mut [u8], at: usize) -> usize
 
 fn put_line(number: u64, sums: &[u64], out: &mut [u8], at: usize) -> usize
     requires { at ≤ length out.old }
-    ensures { Wrote out.old at (lineText number sums.now) result out.new }
+    ensures { Wrote out.old at (line_text number sums.now) result out.new }
 {
     let first = text::put_decimal(out, at, number);
     let second = put_sums(sums, out, first);
@@ -39,8 +39,8 @@ fn put_line(number: u64, sums: &[u64], out: &mut [u8], at: usize) -> usize
 // The line at a place of a report, after the number of its day or month.
 fn put_line_at(number: u64, lines: &[u64], line: usize, out: &mut [u8], at: usize) -> usize
     requires at_in_bounds { at ≤ length out.old }
-    requires line_in_bounds { lineSums * (line + 1) ≤ length lines.now }
-    ensures { Wrote out.old at (lineText number (line_at lines.now line)) result out.new }
+    requires line_in_bounds { line_sums * (line + 1) ≤ length lines.now }
+    ensures { Wrote out.old at (line_text number (line_at lines.now line)) result out.new }
 {
     let start = LINE_SUMS * line;
     let end = start + LINE_SUMS;
@@ -48,8 +48,8 @@ fn put_line_at(number: u64, lines: &[u64], line: usize, out: &mut [u8], at: usiz
 }
 
 fn put_days(first: u32, days: u32, lines: &[u64], out: &mut [u8]) -> usize
-    requires { lineSums * days ≤ length lines.now }
-    ensures { Wrote out.old 0 (eachFrom (dayText first lines.now) days 0) result out.new }
+    requires { line_sums * days ≤ length lines.now }
+    ensures { Wrote out.old 0 (each_from (day_text first lines.now) days 0) result out.new }
 {
     let mut next = 0;
     let mut i: u32 = 0;
@@ -62,8 +62,8 @@ fn put_days(first: u32, days: u32, lines: &[u64], out: &mut [u8]) -> usize
 
 // The lines of the days, and that of the totals.
 fn put_lines(first: u32, days: u32, month: u32, lines: &[u64], out: &mut [u8]) -> usize
-    requires { lineSums * (days + 1) ≤ length lines.now }
-    ensures { Wrote out.old 0 (eachFrom (dayText first lines.now) days 0 ++ lineText month (line_at lines.now days)) result out.new }
+    requires { line_sums * (days + 1) ≤ length lines.now }
+    ensures { Wrote out.old 0 (each_from (day_text first lines.now) days 0 ++ line_text month (line_at lines.now days)) result out.new }
 {
     let next = put_days(first, days, lines, out);
     put_line_at(month as u64, lines, days as usize, out, next)
@@ -72,7 +72,7 @@ fn put_lines(first: u32, days: u32, month: u32, lines: &[u64], out: &mut [u8]) -
 // A report, or the line of its refusal.
 pub fn put_report(report: MonthReport, out: &mut [u8]) -> usize
     requires { report.days ≤ 31 }
-    ensures { Wrote out.old 0 (reportText report) result out.new }
+    ensures { Wrote out.old 0 (report_text report) result out.new }
 {
     if report.answer != 0 {
         return text::refused(report.answer, out);

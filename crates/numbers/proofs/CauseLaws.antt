@@ -5,7 +5,7 @@ use mathlib.Core.Bool.{Bool, true, false}
 use mathlib.Core.List.{List, [], ◌∷◌, ◌++◌}
 use Prim.Native.Nat.{ℕ, zero, suc}
 use native.Mathlib.Nat.{suc-ne-zero}
-use Rattle.numbers.specs.Causes.{unless, or_else, first_of, ifDone}
+use Rattle.numbers.specs.Causes.{unless, or_else, first_of, if_done}
 
 pub unless-zero : (t : Bool) (n : ℕ) → unless t (suc n) ≡ 0 → t ≡ true
 unless-zero true n e = refl
@@ -39,9 +39,9 @@ first-append (zero ∷ cs) ds = first-append cs ds
 first-append (suc n ∷ cs) ds = refl
 
 module _ {ℓ} {A : Type ℓ} where
-  pub done-zero : (c : ℕ) (new old : A) → c ≡ 0 → ifDone c new old ≡ new
+  pub done-zero : (c : ℕ) (new old : A) → c ≡ 0 → if_done c new old ≡ new
   done-zero c new old e = rw e
 
-  pub done-else : (c : ℕ) (new old : A) → c ≢ 0 → ifDone c new old ≡ old
+  pub done-else : (c : ℕ) (new old : A) → c ≢ 0 → if_done c new old ≡ old
   done-else zero new old h = absurd (h refl)
   done-else (suc k) new old h = refl

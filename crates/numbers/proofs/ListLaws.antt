@@ -11,17 +11,17 @@ use borrow.Author.Tests.{eqb-true, eqb-false}
 use Rattle.numbers.proofs.TestLaws.{bool_cases}
 
 module _ {A : Type 0} where
-  pub drop_past : (p q : List A) (n m : ℕ) → length p ≡ n → drop (n + m) (p ++ q) ≡ drop m q
-  drop_past p q n m e = rw (← e) (drop-append-add p q m)
+  pub drop-past : (p q : List A) (n m : ℕ) → length p ≡ n → drop (n + m) (p ++ q) ≡ drop m q
+  drop-past p q n m e = rw (← e) (drop-append-add p q m)
 
-  pub get_d_past : (p q : List A) (n m : ℕ) (x : A) → length p ≡ n → get_or (p ++ q) (n + m) x ≡ get_or q m x
-  get_d_past p q n m x e = rw (← e) (get_or-append-add p q m x)
+  pub get_or-past : (p q : List A) (n m : ℕ) (x : A) → length p ≡ n → get_or (p ++ q) (n + m) x ≡ get_or q m x
+  get_or-past p q n m x e = rw (← e) (get_or-append-add p q m x)
 
   -- equal members, and the same past the end
-  pub getD-blank : (n i : ℕ) (x : A) → get_or (replicate n x) i x ≡ x
-  getD-blank zero i x = refl
-  getD-blank (suc n) zero x = refl
-  getD-blank (suc n) (suc i) x = getD-blank n i x
+  pub get_or-blank : (n i : ℕ) (x : A) → get_or (replicate n x) i x ≡ x
+  get_or-blank zero i x = refl
+  get_or-blank (suc n) zero x = refl
+  get_or-blank (suc n) (suc i) x = get_or-blank n i x
 
   -- one element more of a list that is written in order
   pub set_more : (z : A) (f : ℕ → A) (xs : List A) (k : ℕ) → k < length xs → ((j : ℕ) → j < k → get_or xs j z ≡ f j) →
@@ -32,7 +32,7 @@ module _ {A : Type 0} where
         | inr q ↦ let n = eqb-false j k q in get_or-set_other xs k j (f k) z n ∙ e j (omega (arith, n))
       ]
 
-pub get_d_map : {A B : Type 0} (f : A → B) (xs : List A) (i : ℕ) (x : A) (y : B) → i < length xs → get_or (map f xs) i y ≡ f (get_or xs i x)
-get_d_map f [] i x y h = absurd (omega arith)
-get_d_map f (a ∷ xs) zero x y h = refl
-get_d_map f (a ∷ xs) (suc i) x y h = get_d_map f xs i x y (omega arith)
+pub get_or-map : {A B : Type 0} (f : A → B) (xs : List A) (i : ℕ) (x : A) (y : B) → i < length xs → get_or (map f xs) i y ≡ f (get_or xs i x)
+get_or-map f [] i x y h = absurd (omega arith)
+get_or-map f (a ∷ xs) zero x y h = refl
+get_or-map f (a ∷ xs) (suc i) x y h = get_or-map f xs i x y (omega arith)

@@ -4,7 +4,7 @@ use mathlib.Core.Logic.{inl, inr}
 use Prim.Native.Nat.{ℕ, ◌+◌, ◌*◌, ◌-◌, ◌/◌, ◌%◌, ◌≤◌, ◌<◌, zero-le}
 use native.Mathlib.Nat.{le_of_suc-le-suc, mul_left_comm, add-mul, suc-mul, div-zero, div-add-mod', mod-lt, div-mul-le_self, le-div_iff_mul-le, div-lt_iff_lt-mul, div-eq_of_lt-le, eq-zero-or-pos, le-mul_of_pos_right}
 use native.Mathlib.Omega.{arith}
-use Rattle.numbers.specs.Rounding.{halfUp, round_up}
+use Rattle.numbers.specs.Rounding.{half_up, round_up}
 
 div_mono : {m n : ℕ} (k : ℕ) → m ≤ n → m / k ≤ n / k
 div_mono {m} {n} k h =
@@ -13,60 +13,60 @@ div_mono {m} {n} k h =
       | inr p ↦ (le-div_iff_mul-le p).1 (omega (arith, div-mul-le_self m k))
     ]
 
-pub half-up-by-zero : (a : ℕ) → halfUp a 0 ≡ 0
-unfolding halfUp
-half-up-by-zero a = div-zero _
+pub half_up-by-zero : (a : ℕ) → half_up a 0 ≡ 0
+unfolding half_up
+half_up-by-zero a = div-zero _
 
-pub round-up-by-zero : (a : ℕ) → round_up a 0 ≡ 0
+pub round_up-by-zero : (a : ℕ) → round_up a 0 ≡ 0
 unfolding round_up
-round-up-by-zero a = div-zero _
+round_up-by-zero a = div-zero _
 
-pub half-up-mono : {a a' : ℕ} (b : ℕ) → a ≤ a' → halfUp a b ≤ halfUp a' b
-unfolding halfUp
-half-up-mono b h = div_mono (2 * b) (omega arith)
+pub half_up-mono : {a a' : ℕ} (b : ℕ) → a ≤ a' → half_up a b ≤ half_up a' b
+unfolding half_up
+half_up-mono b h = div_mono (2 * b) (omega arith)
 
-pub round-up-mono : {a a' : ℕ} (b : ℕ) → a ≤ a' → round_up a b ≤ round_up a' b
+pub round_up-mono : {a a' : ℕ} (b : ℕ) → a ≤ a' → round_up a b ≤ round_up a' b
 unfolding round_up
-round-up-mono b h = div_mono b (omega arith)
+round_up-mono b h = div_mono b (omega arith)
 
 -- the rounded quotient is the nearest number of times b, and of two nearest the higher one
-pub half-up-nearest : (a b : ℕ) → 0 < b → (2 * a < 2 * (halfUp a b * b) + b) × (2 * (halfUp a b * b) ≤ 2 * a + b)
-unfolding halfUp
-half-up-nearest a b p =
+pub half_up-nearest : (a b : ℕ) → 0 < b → (2 * a < 2 * (half_up a b * b) + b) × (2 * (half_up a b * b) ≤ 2 * a + b)
+unfolding half_up
+half_up-nearest a b p =
     let l : (2 * a + b) % (2 * b) < 2 * b = mod-lt _ (omega arith) in
     let e = div-add-mod' (2 * a + b) (2 * b) in
     omega (arith, mul_left_comm ((2 * a + b) / (2 * b)) 2 b)
 
 -- and no other number is
-pub half-up-is : (a b q : ℕ) → 2 * a < 2 * (q * b) + b → 2 * (q * b) ≤ 2 * a + b → halfUp a b ≡ q
-unfolding halfUp
-half-up-is a b q low high =
+pub half_up-is : (a b q : ℕ) → 2 * a < 2 * (q * b) + b → 2 * (q * b) ≤ 2 * a + b → half_up a b ≡ q
+unfolding half_up
+half_up-is a b q low high =
     div-eq_of_lt-le (2 * b)
     (omega (arith, mul_left_comm q 2 b))
     (omega (arith, mul_left_comm q 2 b, add-mul q 1 (2 * b)))
 
 -- the rounded quotient is the least number of times b that reaches a
-pub round-up-least : (a b : ℕ) → 0 < b → (a ≤ round_up a b * b) × (round_up a b * b < a + b)
+pub round_up-least : (a b : ℕ) → 0 < b → (a ≤ round_up a b * b) × (round_up a b * b < a + b)
 unfolding round_up
-round-up-least a b p =
+round_up-least a b p =
     let l : (a + (b - 1)) % b < b = mod-lt _ p in
     omega (arith, div-add-mod' (a + (b - 1)) b)
 
-pub round-up-is : (a b q : ℕ) → a ≤ q * b → q * b < a + b → round_up a b ≡ q
+pub round_up-is : (a b q : ℕ) → a ≤ q * b → q * b < a + b → round_up a b ≡ q
 unfolding round_up
-round-up-is a b q low high = div-eq_of_lt-le b (omega arith) (omega (arith, add-mul q 1 b))
+round_up-is a b q low high = div-eq_of_lt-le b (omega arith) (omega (arith, add-mul q 1 b))
 
-pub half-up-bound : (a b k : ℕ) → a ≤ k * b → halfUp a b ≤ k
-unfolding halfUp
-half-up-bound a b k h =
+pub half_up-bound : (a b k : ℕ) → a ≤ k * b → half_up a b ≤ k
+unfolding half_up
+half_up-bound a b k h =
     elim (eq-zero-or-pos b) [
       | inl z ↦ rw (z, div-zero) zero-le
       | inr p ↦ le_of_suc-le-suc ((div-lt_iff_lt-mul (omega arith)).1 (omega (arith, suc-mul k (2 * b), mul_left_comm k 2 b)))
     ]
 
-pub round-up-bound : (a b k : ℕ) → a ≤ k * b → round_up a b ≤ k
+pub round_up-bound : (a b k : ℕ) → a ≤ k * b → round_up a b ≤ k
 unfolding round_up
-round-up-bound a b k h =
+round_up-bound a b k h =
     elim (eq-zero-or-pos b) [
       | inl z ↦ rw (z, div-zero) zero-le
       | inr p ↦ le_of_suc-le-suc ((div-lt_iff_lt-mul p).1 (omega (arith, suc-mul k b)))
@@ -74,23 +74,23 @@ round-up-bound a b k h =
 
 -- the roundings by quotient and rest, as the code finds them
 module _ (a b : ℕ) where
-  pub half-up-down : a % b < b - a % b → a / b ≡ halfUp a b
-  half-up-down h = sym (half-up-is a b (a / b) (omega (arith, div-add-mod' a b)) (omega (arith, div-add-mod' a b)))
+  pub half_up-down : a % b < b - a % b → a / b ≡ half_up a b
+  half_up-down h = sym (half_up-is a b (a / b) (omega (arith, div-add-mod' a b)) (omega (arith, div-add-mod' a b)))
 
-  pub half-up-up : 0 < b → b - a % b ≤ a % b → a / b + 1 ≡ halfUp a b
-  half-up-up p h =
+  pub half_up-up : 0 < b → b - a % b ≤ a % b → a / b + 1 ≡ half_up a b
+  half_up-up p h =
       let l : a % b < b = mod-lt a p in
-      sym (half-up-is a b (a / b + 1)
+      sym (half_up-is a b (a / b + 1)
       (omega (arith, div-add-mod' a b, add-mul (a / b) 1 b))
       (omega (arith, div-add-mod' a b, add-mul (a / b) 1 b)))
 
-  pub round-up-exact : 0 < b → a % b ≡ 0 → a / b ≡ round_up a b
-  round-up-exact p h = sym (round-up-is a b (a / b) (omega (arith, div-add-mod' a b)) (omega (arith, div-add-mod' a b)))
+  pub round_up-exact : 0 < b → a % b ≡ 0 → a / b ≡ round_up a b
+  round_up-exact p h = sym (round_up-is a b (a / b) (omega (arith, div-add-mod' a b)) (omega (arith, div-add-mod' a b)))
 
-  pub round-up-above : 0 < b → (a % b ≡ 0 → ⊥) → a / b + 1 ≡ round_up a b
-  round-up-above p h =
+  pub round_up-above : 0 < b → (a % b ≡ 0 → ⊥) → a / b + 1 ≡ round_up a b
+  round_up-above p h =
       let l : a % b < b = mod-lt a p in
-      sym (round-up-is a b (a / b + 1)
+      sym (round_up-is a b (a / b + 1)
       (omega (arith, div-add-mod' a b, add-mul (a / b) 1 b))
       (omega (arith, div-add-mod' a b, add-mul (a / b) 1 b)))
 

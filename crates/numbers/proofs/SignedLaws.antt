@@ -10,7 +10,7 @@ use lib.Dec.{T, le→leb, ltb→lt}
 use lib.IntN.{ℤ, pos, negsuc, nat_abs, neg_ℤ, sub_ℕ, ◌+ℤ◌}
 use lib.Signed.{lt_z, le_z, ◌≤ℤ◌, ◌<ℤ◌, le_z_yes}
 use borrow.Author.Tests.{lt-ltb, le-ltb}
-use Rattle.numbers.specs.Signed.{lower, sumℤ}
+use Rattle.numbers.specs.Signed.{lower, sum_ℤ}
 use Rattle.numbers.proofs.TestLaws.{below-or-above}
 
 -- a difference by cases
@@ -45,8 +45,8 @@ sub-eq a b c d e = go (below-or-above a b) (below-or-above c d)
     go (inr p) (inl q) = absurd (omega arith)
     go (inr p) (inr q) = rw (sub-above a b p, sub-above c d q) (ap pos (omega arith))
 
-pub natAbs-sub : (a b : ℕ) → nat_abs (sub_ℕ a b) ≤ max a b
-natAbs-sub a b = go (below-or-above a b)
+pub nat_abs-sub : (a b : ℕ) → nat_abs (sub_ℕ a b) ≤ max a b
+nat_abs-sub a b = go (below-or-above a b)
   where
     go : (a < b) ⊎ (b ≤ a) → nat_abs (sub_ℕ a b) ≤ max a b
     go (inl p) = rw (sub-below a b p) (omega arith)
@@ -71,29 +71,29 @@ lower-ind P a b f g = go (lt_z b a) f g
     go false f g = f tt
 
 module _ (a b : ℤ) where
-  pub natAbs-lower : nat_abs (lower a b) ≤ max (nat_abs a) (nat_abs b)
-  natAbs-lower = lower-ind (λ z. nat_abs z ≤ max (nat_abs a) (nat_abs b)) a b (λ t. le-max_left _ _) (λ t. le-max_right _ _)
+  pub nat_abs-lower : nat_abs (lower a b) ≤ max (nat_abs a) (nat_abs b)
+  nat_abs-lower = lower-ind (λ z. nat_abs z ≤ max (nat_abs a) (nat_abs b)) a b (λ t. le-max_left _ _) (λ t. le-max_right _ _)
 
 -- signed sums
-pub natAbs-add : (a b : ℤ) → nat_abs (a +ℤ b) ≤ nat_abs a + nat_abs b
-natAbs-add (pos a) (pos b) = le_refl _
-natAbs-add (pos a) (negsuc b) = omega (arith, natAbs-sub a (suc b))
-natAbs-add (negsuc a) (pos b) = omega (arith, natAbs-sub b (suc a))
-natAbs-add (negsuc a) (negsuc b) = omega arith
+pub nat_abs-add : (a b : ℤ) → nat_abs (a +ℤ b) ≤ nat_abs a + nat_abs b
+nat_abs-add (pos a) (pos b) = le_refl _
+nat_abs-add (pos a) (negsuc b) = omega (arith, nat_abs-sub a (suc b))
+nat_abs-add (negsuc a) (pos b) = omega (arith, nat_abs-sub b (suc a))
+nat_abs-add (negsuc a) (negsuc b) = omega arith
 
-pub natAbs-neg : (z : ℤ) → nat_abs (neg_ℤ z) ≡ nat_abs z
-natAbs-neg (pos zero) = refl
-natAbs-neg (pos (suc n)) = refl
-natAbs-neg (negsuc n) = refl
+pub nat_abs-neg : (z : ℤ) → nat_abs (neg_ℤ z) ≡ nat_abs z
+nat_abs-neg (pos zero) = refl
+nat_abs-neg (pos (suc n)) = refl
+nat_abs-neg (negsuc n) = refl
 
 -- one number more, in the code's form
-pub sumℤ-step : (n : ℕ) (f : ℕ → ℤ) → sumℤ (n + 1) f ≡ sumℤ n f +ℤ f n
-unfolding sumℤ
-sumℤ-step n f = rw add-one
+pub sum_ℤ-step : (n : ℕ) (f : ℕ → ℤ) → sum_ℤ (n + 1) f ≡ sum_ℤ n f +ℤ f n
+unfolding sum_ℤ
+sum_ℤ-step n f = rw add-one
 
-pub sumℤ-bound : (n : ℕ) (f : ℕ → ℤ) (b : ℕ) → ((k : ℕ) → k < n → nat_abs (f k) ≤ b) → nat_abs (sumℤ n f) ≤ n * b
-unfolding sumℤ
-sumℤ-bound zero f b h = zero-le
-sumℤ-bound (suc n) f b h =
-    let rest : nat_abs (sumℤ n f) ≤ n * b = sumℤ-bound n f b (λ k l. h k (omega arith)) in
-    omega (arith, natAbs-add (sumℤ n f) (f n), h n (omega arith), suc-mul n b)
+pub sum_ℤ-bound : (n : ℕ) (f : ℕ → ℤ) (b : ℕ) → ((k : ℕ) → k < n → nat_abs (f k) ≤ b) → nat_abs (sum_ℤ n f) ≤ n * b
+unfolding sum_ℤ
+sum_ℤ-bound zero f b h = zero-le
+sum_ℤ-bound (suc n) f b h =
+    let rest : nat_abs (sum_ℤ n f) ≤ n * b = sum_ℤ-bound n f b (λ k l. h k (omega arith)) in
+    omega (arith, nat_abs-add (sum_ℤ n f) (f n), h n (omega arith), suc-mul n b)

@@ -10,7 +10,7 @@ use native.Mathlib.Omega.{arith}
 use lib.Dec.{eqb}
 use lib.ListN.{length}
 use borrow.Author.Tests.{eqb-true, eqb-false, ne_eqb}
-use Rattle.numbers.specs.Sums.{sum, countBelow, total, count}
+use Rattle.numbers.specs.Sums.{sum, count_below, total, count}
 use Rattle.numbers.specs.Tests.{every, all}
 use Rattle.numbers.proofs.TestLaws.{bool_cases, and_split, every-cons}
 
@@ -161,10 +161,10 @@ unfolding sum
 sum-times zero f g b h = zero-le
 sum-times (suc n) f g b h = rw mul-add (add-le-add (sum-times n f g b h) (h n))
 
-pub countBelow-le : (n : ℕ) (f : ℕ → Bool) → countBelow n f ≤ n
-unfolding countBelow
-countBelow-le n f = rw mul-one at (sum_bound n _ 1 (λ k l. cond_below (f k) 1))
+pub count_below-le : (n : ℕ) (f : ℕ → Bool) → count_below n f ≤ n
+unfolding count_below
+count_below-le n f = rw mul-one at (sum_bound n _ 1 (λ k l. cond_below (f k) 1))
 
-pub countBelow-step : (n : ℕ) (f : ℕ → Bool) → countBelow (n + 1) f ≡ countBelow n f + cond (f n) 1 0
-unfolding countBelow
-countBelow-step n f = sum_step n _
+pub count_below-step : (n : ℕ) (f : ℕ → Bool) → count_below (n + 1) f ≡ count_below n f + cond (f n) 1 0
+unfolding count_below
+count_below-step n f = sum_step n _

@@ -94,24 +94,24 @@ module _ {A : Type 0} where
   all_get_d f (x ∷ xs) e (suc i) d h = all_get_d f xs (and_split (f x) (all f xs) e).1 i d (le_of_suc-le-suc h)
 
   -- and past the end, where it holds of what stands there
-  pub getD-holds : (f : A → Bool) (xs : List A) → all f xs ≡ true → (i : ℕ) (d : A) → f d ≡ true → f (get_or xs i d) ≡ true
+  pub get_or-holds : (f : A → Bool) (xs : List A) → all f xs ≡ true → (i : ℕ) (d : A) → f d ≡ true → f (get_or xs i d) ≡ true
   unfolding all
-  getD-holds f [] e i d h = h
-  getD-holds f (x ∷ xs) e zero d h = (and_split (f x) (all f xs) e).0
-  getD-holds f (x ∷ xs) e (suc i) d h = getD-holds f xs (and_split (f x) (all f xs) e).1 i d h
+  get_or-holds f [] e i d h = h
+  get_or-holds f (x ∷ xs) e zero d h = (and_split (f x) (all f xs) e).0
+  get_or-holds f (x ∷ xs) e (suc i) d h = get_or-holds f xs (and_split (f x) (all f xs) e).1 i d h
 
-pub allBelow-at : (n : ℕ) (f : ℕ → Bool) → all_below n f ≡ true → (k : ℕ) → k < n → f k ≡ true
+pub all_below-at : (n : ℕ) (f : ℕ → Bool) → all_below n f ≡ true → (k : ℕ) → k < n → f k ≡ true
 unfolding all_below
-allBelow-at zero f e k h = absurd (not-suc-le-zero h)
-allBelow-at (suc n) f e k h =
+all_below-at zero f e k h = absurd (not-suc-le-zero h)
+all_below-at (suc n) f e k h =
     let s = and_split (f n) (all_below n f) e in
-    elim (eq-or-lt_of_le (le_of_suc-le-suc h)) [ inl q ↦ rw q s.0 | inr l ↦ allBelow-at n f s.1 k l ]
+    elim (eq-or-lt_of_le (le_of_suc-le-suc h)) [ inl q ↦ rw q s.0 | inr l ↦ all_below-at n f s.1 k l ]
 
-pub allBelow-from : (n : ℕ) (f : ℕ → Bool) → ((k : ℕ) → k < n → f k ≡ true) → all_below n f ≡ true
+pub all_below-from : (n : ℕ) (f : ℕ → Bool) → ((k : ℕ) → k < n → f k ≡ true) → all_below n f ≡ true
 unfolding all_below
-allBelow-from zero f h = refl
-allBelow-from (suc n) f h =
-    and-join (f n) (all_below n f) (h n (omega arith)) (allBelow-from n f (λ k l. h k (omega arith)))
+all_below-from zero f h = refl
+all_below-from (suc n) f h =
+    and-join (f n) (all_below n f) (h n (omega arith)) (all_below-from n f (λ k l. h k (omega arith)))
 
 pub all_set : {A : Type 0} (f : A → Bool) (xs : List A) (i : ℕ) (x : A) → all f xs ≡ true → f x ≡ true → all f (set xs i x) ≡ true
 unfolding all

@@ -16,6 +16,6 @@ first_of [] = 0
 first_of (c ∷ cs) = or_else c (first_of cs)
 
 -- what a call leaves: the new value where no cause holds, else the old one
-abbrev pub ifDone {ℓ} : {A : Type ℓ} → ℕ → A → A → A
-ifDone zero new old = new
-ifDone (suc n) new old = old
+abbrev pub if_done {ℓ} : {A : Type ℓ} → ℕ → A → A → A
+if_done zero new old = new
+if_done (suc n) new old = old

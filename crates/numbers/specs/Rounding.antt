@@ -2,8 +2,8 @@
 use Rattle.std.specs.Prelude.{ℕ, ◌+◌, ◌*◌, ◌-◌, ◌/◌}
 
 -- a / b, halves up
-unfoldable pub halfUp : ℕ → ℕ → ℕ
-halfUp a b = (2 * a + b) / (2 * b)
+unfoldable pub half_up : ℕ → ℕ → ℕ
+half_up a b = (2 * a + b) / (2 * b)
 
 -- a / b, up
 unfoldable pub round_up : ℕ → ℕ → ℕ

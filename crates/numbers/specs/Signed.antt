@@ -3,18 +3,18 @@ use Rattle.std.specs.Prelude.{Bool, cond, ℕ, zero, suc, ◌+◌, ◌*◌, ◌-
 use Rattle.std.specs.Int.Signed.{lt_z}
 
 -- above zero
-abbrev pub isPositive : ℤ → Bool
-isPositive z = lt_z (pos 0) z
+abbrev pub is_positive : ℤ → Bool
+is_positive z = lt_z (pos 0) z
 
 -- below zero
-abbrev pub isNegative : ℤ → Bool
-isNegative z = lt_z z (pos 0)
+abbrev pub is_negative : ℤ → Bool
+is_negative z = lt_z z (pos 0)
 
 -- the lower of two
 abbrev pub lower : ℤ → ℤ → ℤ
 lower a b = cond (lt_z b a) b a
 
 -- f 0 + .. + f (n - 1), signed
-unfoldable pub sumℤ : ℕ → (ℕ → ℤ) → ℤ
-sumℤ zero f = pos 0
-sumℤ (suc n) f = sumℤ n f +ℤ f n
+unfoldable pub sum_ℤ : ℕ → (ℕ → ℤ) → ℤ
+sum_ℤ zero f = pos 0
+sum_ℤ (suc n) f = sum_ℤ n f +ℤ f n

@@ -7,8 +7,8 @@ sum zero f = 0
 sum (suc n) f = sum n f + f n
 
 -- how many numbers below n pass a test
-unfoldable pub countBelow : ℕ → (ℕ → Bool) → ℕ
-countBelow n f = sum n (λ k. cond (f k) 1 0)
+unfoldable pub count_below : ℕ → (ℕ → Bool) → ℕ
+count_below n f = sum n (λ k. cond (f k) 1 0)
 
 module _ {A : Type 0} where
   -- the sum of f over a list

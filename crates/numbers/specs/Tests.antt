@@ -1,14 +1,14 @@
 -- Tests over lists and over indices.
 use Rattle.std.specs.Prelude.{Bool, true, false, ◌&&◌, ◌||◌, List, [], ◌∷◌, ℕ, zero, suc}
 
-abbrev pub andAll : Bool → List Bool → Bool
-andAll t [] = t
-andAll t (u ∷ us) = andAll (t && u) us
+abbrev pub and_all : Bool → List Bool → Bool
+and_all t [] = t
+and_all t (u ∷ us) = and_all (t && u) us
 
 -- each test of a list holds: t₀ && t₁ && ..
 abbrev pub every : List Bool → Bool
 every [] = true
-every (t ∷ ts) = andAll t ts
+every (t ∷ ts) = and_all t ts
 
 module _ {A : Type 0} where
   -- a test holds of each member

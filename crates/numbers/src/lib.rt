@@ -1,6 +1,6 @@
 // Leaves that later crates call: absolute value, the larger of two, and the two roundings.
 ghost use Rattle.std.specs.Prelude.{◌≡◌, max, nat_abs};
-ghost use Rattle.numbers.specs.Rounding.{halfUp, round_up};
+ghost use Rattle.numbers.specs.Rounding.{half_up, round_up};
 
 // 2^63, the size of the lowest signed figure.
 const LOWEST: u64 = 9223372036854775808;
@@ -24,7 +24,7 @@ pub fn larger(a: u64, b: u64) -> u64
 
 // a / b, halves up; 0 where b is 0.
 pub fn half_up(a: u64, b: u64) -> u64
-    ensures { result ≡ halfUp a b }
+    ensures { result ≡ half_up a b }
 {
     if b == 0 {
         return 0;

@@ -1,13 +1,13 @@
 // The tally of a party's day, and both balances (01, 'The two balances').
 ghost use Rattle.std.specs.Prelude.{◌≡◌, cond};
 ghost use Rattle.balance_formulas.specs.Bounded.{Bounded};
-ghost use Rattle.rules.specs.Balance.{tallyAnswer, balanceOf, balanceAnswer, isDetected, dayAhead, delivery};
+ghost use Rattle.rules.specs.Balance.{tally_answer, balance_of, balance_answer, is_detected, day_ahead, delivery};
 
 use rules::{BalanceAnswer, Tally, TallyAnswer};
 
 // The seventeen sums and B, which both balances are made of.
 pub fn tally(book: &[u32], party: u32, day: u32) -> TallyAnswer
-    ensures { result ≡ tallyAnswer book.now party day }
+    ensures { result ≡ tally_answer book.now party day }
 {
     let cause = book::party_day_cause(book, party, day);
     if cause != 0 {
@@ -19,7 +19,7 @@ pub fn tally(book: &[u32], party: u32, day: u32) -> TallyAnswer
 // The balance of a tally that was read, for the day-ahead or for delivery.
 fn balance_of(ahead: bool, t: Tally, bought: u64, coefficient: u32, tolerance: u32) -> i64
     requires { Bounded t bought coefficient tolerance }
-    ensures { result ≡ balanceOf (cond ahead dayAhead delivery) coefficient tolerance t bought }
+    ensures { result ≡ balance_of (cond ahead day_ahead delivery) coefficient tolerance t bought }
 {
     if ahead {
         return balance_formulas::day_ahead_of(t, bought, coefficient, tolerance);
@@ -29,7 +29,7 @@ fn balance_of(ahead: bool, t: Tally, bought: u64, coefficient: u32, tolerance: u
 
 // One pass over the book for either balance.
 fn balance_with(ahead: bool, book: &[u32], party: u32, day: u32) -> BalanceAnswer
-    ensures { result ≡ balanceAnswer (cond ahead dayAhead delivery) book.now party day }
+    ensures { result ≡ balance_answer (cond ahead day_ahead delivery) book.now party day }
 {
     let cause = book::party_day_cause(book, party, day);
     if cause != 0 {
@@ -52,21 +52,21 @@ fn balance_with(ahead: bool, book: &[u32], party: u32, day: u32) -> BalanceAnswe
 
 // Article 7.
 pub fn day_ahead(book: &[u32], party: u32, day: u32) -> BalanceAnswer
-    ensures { result ≡ balanceAnswer dayAhead book.now party day }
+    ensures { result ≡ balance_answer day_ahead book.now party day }
 {
     balance_with(true, book, party, day)
 }
 
 // Article 5.
 pub fn delivery(book: &[u32], party: u32, day: u32) -> BalanceAnswer
-    ensures { result ≡ balanceAnswer delivery book.now party day }
+    ensures { result ≡ balance_answer delivery book.now party day }
 {
     balance_with(false, book, party, day)
 }
 
 // Above zero is detected; zero is clear.
 pub fn detected(balance: i64) -> bool
-    ensures { result ≡ isDetected balance }
+    ensures { result ≡ is_detected balance }
 {
     0 < balance
 }

@@ -13,9 +13,9 @@ use lib.ListN.{length, get_or, set, length-set}
 use lib.Seq.{get_or-set_same, get_or-set_other}
 use borrow.Author.Tests.{eqb-true, eqb-false, eq-eqb, ne_eqb, leb-true, leb-false}
 use Rattle.numbers.proofs.TestLaws.{bool_cases}
-use Rattle.numbers.proofs.ListLaws.{getD-blank}
+use Rattle.numbers.proofs.ListLaws.{get_or-blank}
 use Rattle.cells.specs.Cells.{blank}
-use Rattle.repeated_pairs.specs.Pairs.{bit_at, withBit}
+use Rattle.repeated_pairs.specs.Pairs.{bit_at, with_bit}
 
 -- whether bit n of a number is set
 abbrev odd : ℕ → ℕ → Bool
@@ -60,12 +60,12 @@ or-bit a m n = elim (bool_cases (eqb m n)) [ inl e ↦ rw e (eq-eqb _ 1 (same e)
     other : eqb m n ≡ false → bit_or a (2 ^ m) / 2 ^ n % 2 ≡ a / 2 ^ n % 2
     other e = parts ∙ rw (power-other m n (eqb-false m n e)) (max-zero (a / 2 ^ n % 2))
 
-pub length-bit : (words : List ℕ) (k : ℕ) → length (withBit words k) ≡ length words
-unfolding withBit
+pub length-bit : (words : List ℕ) (k : ℕ) → length (with_bit words k) ≡ length words
+unfolding with_bit
 length-bit words k = length-set words (k / 64) (bit_or (get_or words (k / 64) 0) (2 ^ (k % 64)))
 
-pub bit-after : (n : ℕ) (words : List ℕ) (k j : ℕ) → length words ≡ n → k < 64 * n → bit_at (withBit words k) j ≡ eqb k j || bit_at words j
-unfolding withBit bit_at
+pub bit-after : (n : ℕ) (words : List ℕ) (k j : ℕ) → length words ≡ n → k < 64 * n → bit_at (with_bit words k) j ≡ eqb k j || bit_at words j
+unfolding with_bit bit_at
 bit-after n words k j long h =
     elim (bool_cases (eqb (j / 64) (k / 64))) [
       | inl e ↦
@@ -86,9 +86,9 @@ bit-after n words k j long h =
 
 pub no-bit : (n j : ℕ) → bit_at (blank n) j ≡ false
 unfolding bit_at blank
-no-bit n j = rw (getD-blank {A = ℕ} n (j / 64) 0) (ap (λ k. eqb (k % 2) 1) (div-eq_of_lt (pow_pos (j % 64))))
+no-bit n j = rw (get_or-blank {A = ℕ} n (j / 64) 0) (ap (λ k. eqb (k % 2) 1) (div-eq_of_lt (pow_pos (j % 64))))
 
 -- the word that the code stores
-pub bit-stored : (words : List ℕ) (k : ℕ) → set words (k / 64) (bit_or (get_or words (k / 64) 0) (1 * 2 ^ (k % 64) % 2 ^ 64)) ≡ withBit words k
-unfolding withBit
+pub bit-stored : (words : List ℕ) (k : ℕ) → set words (k / 64) (bit_or (get_or words (k / 64) 0) (1 * 2 ^ (k % 64) % 2 ^ 64)) ≡ with_bit words k
+unfolding with_bit
 bit-stored words k = ap (λ b. set words (k / 64) (bit_or (get_or words (k / 64) 0) b)) (shl_exact 1 (k % 64) 64 (omega arith) (omega arith) ∙ one-mul (2 ^ (k % 64)))

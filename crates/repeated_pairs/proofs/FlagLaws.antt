@@ -9,29 +9,29 @@ use lib.Dec.{eqb, ltb}
 use lib.ListN.{length, get_or, set, length-set, length-replicate}
 use lib.Seq.{get_or-set_same, get_or-set_other}
 use borrow.Author.Tests.{eqb-true, eqb-false, ltb-true, ltb-false, lt-ltb, le-ltb}
-use Rattle.numbers.specs.Sums.{sum, countBelow}
+use Rattle.numbers.specs.Sums.{sum, count_below}
 use Rattle.numbers.proofs.TestLaws.{bool_cases}
-use Rattle.numbers.proofs.ListLaws.{getD-blank}
+use Rattle.numbers.proofs.ListLaws.{get_or-blank}
 use Rattle.rules.specs.Control.{Parties}
-use Rattle.repeated_pairs.specs.Flags.{flagged, noFlags, withFlag}
+use Rattle.repeated_pairs.specs.Flags.{flagged, no_flags, with_flag}
 
 -- the flags of the parties below n are those of a test, and no other is set
 pub record Below (n : ℕ) (f : Parties) (flags : List Bool) : Type 0 where
   pub long : length flags ≡ 1000
   pub flag : (q : ℕ) → get_or flags q false ≡ ltb q n && f q
 
-pub no_flag : (q : ℕ) → get_or noFlags q false ≡ false
-unfolding noFlags
-no_flag q = getD-blank 1000 q false
+pub no_flag : (q : ℕ) → get_or no_flags q false ≡ false
+unfolding no_flags
+no_flag q = get_or-blank 1000 q false
 
-pub length-no-flags : length noFlags ≡ 1000
-unfolding noFlags
-length-no-flags = length-replicate {A = Bool} 1000 false
+pub length-no_flags : length no_flags ≡ 1000
+unfolding no_flags
+length-no_flags = length-replicate {A = Bool} 1000 false
 
-pub length-flag : (flags : List Bool) (k : ℕ) → length (withFlag flags k) ≡ length flags
+pub length-flag : (flags : List Bool) (k : ℕ) → length (with_flag flags k) ≡ length flags
 length-flag flags k = length-set flags k true
 
-pub flag-after : (flags : List Bool) (k j : ℕ) → length flags ≡ 1000 → k < 1000 → flagged (withFlag flags k) j ≡ eqb k j || flagged flags j
+pub flag-after : (flags : List Bool) (k j : ℕ) → length flags ≡ 1000 → k < 1000 → flagged (with_flag flags k) j ≡ eqb k j || flagged flags j
 flag-after flags k j long h =
     elim (bool_cases (eqb k j)) [
       | inl e ↦ let s : j ≡ k = sym (eqb-true k j e) in rw (e, s) (get_or-set_same flags k true false (rw long h))
@@ -39,8 +39,8 @@ flag-after flags k j long h =
     ]
 
 module _ (f : Parties) where
-  pub below-start : (flags : List Bool) → flags ≡ noFlags → f 0 ≡ false → Below 1 f flags
-  below-start flags e z = record { long = ap length e ∙ length-no-flags; flag = at }
+  pub below-start : (flags : List Bool) → flags ≡ no_flags → f 0 ≡ false → Below 1 f flags
+  below-start flags e z = record { long = ap length e ∙ length-no_flags; flag = at }
     where
       at : (q : ℕ) → get_or flags q false ≡ ltb q 1 && f q
       at zero = rw (e, no_flag 0, z)
@@ -90,8 +90,8 @@ pub unset : (b : Bool) → ◌≡◌ {A = ℕ} (cond b 1 0) 0 → b ≡ false
 unset true z = absurd (omega arith)
 unset false z = refl
 
-pub count_none : (n : ℕ) (f : Parties) → countBelow n f ≡ 0 → (p : ℕ) → p < n → f p ≡ false
-unfolding countBelow sum
+pub count_none : (n : ℕ) (f : Parties) → count_below n f ≡ 0 → (p : ℕ) → p < n → f p ≡ false
+unfolding count_below sum
 count_none zero f e p h = absurd (omega arith)
 count_none (suc n) f e p h =
     elim (bool_cases (eqb p n)) [

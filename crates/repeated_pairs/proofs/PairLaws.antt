@@ -13,83 +13,83 @@ use Rattle.numbers.specs.Sums.{total, count}
 use Rattle.numbers.specs.Tests.{every, all, any}
 use Rattle.numbers.proofs.SumLaws.{cond_below, count-le-length}
 use Rattle.numbers.proofs.TestLaws.{bool_cases, below-or-above, and_split, and-join, or_cases, or_left, or_right, or-false-split, every_holds, holds-every}
-use Rattle.calendar.specs.Calendar.{months, monthOf, monthStart}
+use Rattle.calendar.specs.Calendar.{months, month_of, month_start}
 use Rattle.calendar.proofs.MonthLaws.{start-mono, start-end, InMonth, month-unique, month-past, month-holds}
-use Rattle.rules.specs.Entry.{Record, key, legal, fault, statusOk, markOk, isCancelled, isStanding, isMark, isBilateral, dayOk, lastDay, recordIn, entryOf}
+use Rattle.rules.specs.Entry.{Record, key, legal, fault, status_ok, mark_ok, is_cancelled, is_standing, is_mark, is_bilateral, day_ok, last_day, record_in, entry_of}
 use Rattle.rules.specs.declared.Entry.{Entry}
-use Rattle.rules.specs.Words.{isBook, entries, countOf}
-use Rattle.rules.specs.Control.{isEarlierOrLater, isRepeatedBuyer}
+use Rattle.rules.specs.Words.{is_book, entries, count_of}
+use Rattle.rules.specs.Control.{is_earlier_or_later, is_repeated_buyer}
 use Rattle.rules.proofs.WordLaws.{no-fault, legal-bounds, book-facts, length-read}
 use Rattle.cells.specs.Cells.{over, blank}
 use Rattle.cells.proofs.CellLaws.{same_test}
-use Rattle.cells.proofs.ScanLaws.{Scanned, readTo, readAt, total-next}
-use Rattle.repeated_pairs.specs.Flags.{flagged, noFlags, withFlag}
-use Rattle.repeated_pairs.specs.Pairs.{IsPeriod, isOther, Paired, pair_of, bit_of, bitWords, bit_at, withBit, marked, pairMarked, pairsOf, isHit, buyerMarked, buyersOf, sharesBit, likelyBuyer, likelyAmong}
+use Rattle.cells.proofs.ScanLaws.{Scanned, read_to, read_at, total-next}
+use Rattle.repeated_pairs.specs.Flags.{flagged, no_flags, with_flag}
+use Rattle.repeated_pairs.specs.Pairs.{IsPeriod, is_other, Paired, pair_of, bit_of, bit_words, bit_at, with_bit, marked, pair_marked, pairs_of, is_hit, buyer_marked, buyers_of, shares_bit, likely_buyer, likely_among}
 use Rattle.repeated_pairs.specs.declared.Period.{Period}
-use Rattle.repeated_pairs.proofs.FlagLaws.{unset, no_flag, length-no-flags, length-flag, flag-after}
+use Rattle.repeated_pairs.proofs.FlagLaws.{unset, no_flag, length-no_flags, length-flag, flag-after}
 use Rattle.repeated_pairs.proofs.BitLaws.{length-bit, bit-after, no-bit}
 
 -- a legal cancelled entry has a seller and a buyer
-pub paired : (r : Record) → legal r ≡ true → isCancelled r ≡ true → Paired r
-unfolding legal statusOk markOk
+pub paired : (r : Record) → legal r ≡ true → is_cancelled r ≡ true → Paired r
+unfolding legal status_ok mark_ok
 paired r l e =
     let two : r.label.status ≡ 2 = eqb-true r.label.status 2 e in
-    elim (or_cases (eqb (fault (key r) r.amount) 0 && statusOk r.label) (markOk r) l) [
+    elim (or_cases (eqb (fault (key r) r.amount) 0 && status_ok r.label) (mark_ok r) l) [
       | inl s ↦
-          let t = and_split (eqb (fault (key r) r.amount) 0) (statusOk r.label) s in
+          let t = and_split (eqb (fault (key r) r.amount) 0) (status_ok r.label) s in
           let f = no-fault (key r) r.amount (eqb-true _ _ t.0) in
           let k = buyer-of two t.1 in
           record { seller-above = f.party-above; seller = f.party; buyer-above = k; buyer = f.counterparty }
       | inr m ↦
-          let h = every_holds (isMark r ∷ dayOk (key r).day ∷ eqb (key r).party 0 ∷ eqb (key r).counterparty 0 ∷ eqb r.amount 0 ∷ isStanding r ∷ []) m in
+          let h = every_holds (is_mark r ∷ day_ok (key r).day ∷ eqb (key r).party 0 ∷ eqb (key r).counterparty 0 ∷ eqb r.amount 0 ∷ is_standing r ∷ []) m in
           absurd (omega (arith, two, eqb-true r.label.status 0 h.1.1.1.1.1.0))
     ]
   where
-    buyer-of : r.label.status ≡ 2 → statusOk r.label ≡ true → 1 ≤ (key r).counterparty
+    buyer-of : r.label.status ≡ 2 → status_ok r.label ≡ true → 1 ≤ (key r).counterparty
     buyer-of two s =
         elim (or_cases (leb r.label.status 1) _ s) [
           | inl k ↦ absurd (omega (arith, leb-true r.label.status 1 k, two))
           | inr k ↦
-              let b = (and_split (eqb r.label.status 2) (isBilateral (key r)) k).1 in
+              let b = (and_split (eqb r.label.status 2) (is_bilateral (key r)) k).1 in
               ltb-true 0 (key r).counterparty (and_split (eqb (key r).type 6) (ltb 0 (key r).counterparty) b).1
         ]
 
 -- a cancelled entry of another day of the month
-pub other-cancelled : (d : ℕ) (r : Record) → isOther d r ≡ true → isCancelled r ≡ true
-unfolding isOther
-other-cancelled d r e = (every_holds (isCancelled r ∷ not (eqb (key r).day d) ∷ eqb (monthOf (key r).day) (monthOf d) ∷ []) e).0
+pub other-cancelled : (d : ℕ) (r : Record) → is_other d r ≡ true → is_cancelled r ≡ true
+unfolding is_other
+other-cancelled d r e = (every_holds (is_cancelled r ∷ not (eqb (key r).day d) ∷ eqb (month_of (key r).day) (month_of d) ∷ []) e).0
 
 -- the days of a month, by its first and the first of the next
-month-days : (m e : ℕ) → e ≤ lastDay → leb (monthStart m) e && ltb e (monthStart (m + 1)) ≡ eqb (monthOf e) m
-month-days m e h = same_test inside (λ t. let q : m ≡ monthOf e = sym (eqb-true _ _ t) in rw (q, le-leb _ _ i.from, add-one (monthOf e), lt-ltb _ _ i.until))
+month-days : (m e : ℕ) → e ≤ last_day → leb (month_start m) e && ltb e (month_start (m + 1)) ≡ eqb (month_of e) m
+month-days m e h = same_test inside (λ t. let q : m ≡ month_of e = sym (eqb-true _ _ t) in rw (q, le-leb _ _ i.from, add-one (month_of e), lt-ltb _ _ i.until))
   where
-    i : InMonth e (monthOf e)
+    i : InMonth e (month_of e)
     i = month-holds e (omega arith)
 
-    inside : leb (monthStart m) e && ltb e (monthStart (m + 1)) ≡ true → eqb (monthOf e) m ≡ true
+    inside : leb (month_start m) e && ltb e (month_start (m + 1)) ≡ true → eqb (month_of e) m ≡ true
     inside t =
         let s = and_split _ _ t in
-        let from = leb-true (monthStart m) e s.0 in
-        let until : e < monthStart (suc m) = rw add-one at (ltb-true e (monthStart (m + 1)) s.1) in
+        let from = leb-true (month_start m) e s.0 in
+        let until : e < month_start (suc m) = rw add-one at (ltb-true e (month_start (m + 1)) s.1) in
         elim (below-or-above m months) [
           | inl b ↦ eq-eqb _ _ (month-unique m e b from until)
           | inr b ↦ absurd (omega (arith, start-mono months m b, start-end))
         ]
 
-pub period-found : (d : ℕ) {m f n : ℕ} → m ≡ monthOf d → f ≡ monthStart m → n ≡ monthStart (m + 1) → IsPeriod d (record { first = f; next = n })
+pub period-found : (d : ℕ) {m f n : ℕ} → m ≡ month_of d → f ≡ month_start m → n ≡ month_start (m + 1) → IsPeriod d (record { first = f; next = n })
 period-found d {m} k p q = record { same = λ e h. rw (p, q, ← k) (month-days m e h) }
 
 -- the last month of the table, or the one after it
-pub month-most : (d : ℕ) → monthOf d ≤ months
+pub month-most : (d : ℕ) → month_of d ≤ months
 month-most d =
     elim (below-or-above d 36525) [ inl b ↦ omega (arith, (month-holds d b).below) | inr b ↦ omega (arith, month-past d b) ]
 
 pub other-by-days : (d : ℕ) (r : Record) (p : Period) → IsPeriod d p → legal r ≡ true →
-    isCancelled r && not (eqb (key r).day d) && (leb p.first (key r).day && ltb (key r).day p.next) ≡ isOther d r
-unfolding isOther
+    is_cancelled r && not (eqb (key r).day d) && (leb p.first (key r).day && ltb (key r).day p.next) ≡ is_other d r
+unfolding is_other
 other-by-days d r p i l =
     let b = legal-bounds r l in
-    ap (λ m. isCancelled r && not (eqb (key r).day d) && m) (i.same (key r).day (omega arith))
+    ap (λ m. is_cancelled r && not (eqb (key r).day d) && m) (i.same (key r).day (omega arith))
 
 -- places marked where a test holds
 module _ {A : Type 0} (mark : List A → ℕ → List A) (test : Record → Bool) (place : Record → ℕ) where
@@ -102,9 +102,9 @@ module _ {A : Type 0} (mark : List A → ℕ → List A) (test : Record → Bool
   marked-no r table e = rw e
 
   -- n places in a table of m elements
-  module _ (isMarked : List A → ℕ → Bool) (m n : ℕ)
+  module _ (is_marked : List A → ℕ → Bool) (m n : ℕ)
       (long : (table : List A) (k : ℕ) → length (mark table k) ≡ length table)
-      (after : (table : List A) (k j : ℕ) → length table ≡ m → k < n → isMarked (mark table k) j ≡ eqb k j || isMarked table j)
+      (after : (table : List A) (k j : ℕ) → length table ≡ m → k < n → is_marked (mark table k) j ≡ eqb k j || is_marked table j)
       (in-range : (r : Record) → legal r ≡ true → test r ≡ true → place r < n) where
     length_marked : (r : Record) (table : List A) → length (marked mark test place r table) ≡ length table
     unfolding marked
@@ -116,20 +116,20 @@ module _ {A : Type 0} (mark : List A → ℕ → List A) (test : Record → Bool
     length_over (r ∷ rs) table = length_over rs (marked mark test place r table) ∙ length_marked r table
 
     marked-one : (r : Record) (table : List A) (j : ℕ) → legal r ≡ true → length table ≡ m →
-        isMarked (marked mark test place r table) j ≡ (test r && eqb (place r) j) || isMarked table j
+        is_marked (marked mark test place r table) j ≡ (test r && eqb (place r) j) || is_marked table j
     unfolding marked
     marked-one r table j l q =
         elim (bool_cases (test r)) [ inl e ↦ rw e (after table (place r) j q (in-range r l e)) | inr e ↦ rw e ]
 
     pub over-marked : (rs : List Record) (table : List A) (j : ℕ) → all legal rs ≡ true → length table ≡ m →
-        isMarked (over (marked mark test place) rs table) j ≡ any (λ r. test r && eqb (place r) j) rs || isMarked table j
+        is_marked (over (marked mark test place) rs table) j ≡ any (λ r. test r && eqb (place r) j) rs || is_marked table j
     unfolding over all any
     over-marked [] table j l q = refl
     over-marked (r ∷ rs) table j l q =
         let s = and_split (legal r) (all legal rs) l in
         over-marked rs (marked mark test place r table) j s.1 (length_marked r table ∙ q)
         ∙ ap (λ b. any (λ x. test x && eqb (place x) j) rs || b) (marked-one r table j s.0 q)
-        ∙ or_turn (any (λ x. test x && eqb (place x) j) rs) (test r && eqb (place r) j) (isMarked table j)
+        ∙ or_turn (any (λ x. test x && eqb (place x) j) rs) (test r && eqb (place r) j) (is_marked table j)
       where
         or_turn : (a b c : Bool) → a || (b || c) ≡ (b || a) || c
         or_turn true true c = refl
@@ -172,11 +172,11 @@ or-none : (a b : Bool) → b ≡ false → a || b ≡ a
 or-none true b e = refl
 or-none false b e = e
 
-length-words : (few : Bool) → length (blank (bitWords few)) ≡ bitWords few
+length-words : (few : Bool) → length (blank (bit_words few)) ≡ bit_words few
 unfolding blank
-length-words few = length-replicate {A = ℕ} (bitWords few) 0
+length-words few = length-replicate {A = ℕ} (bit_words few) 0
 
-pub pair-in : (few : Bool) (r : Record) {k : ℕ} → Paired r → k ≡ bit_of few r → k < 64 * bitWords few
+pub pair-in : (few : Bool) (r : Record) {k : ℕ} → Paired r → k ≡ bit_of few r → k < 64 * bit_words few
 pair-in true r p q = omega arith
 pair-in false r p q = omega arith
 
@@ -197,84 +197,84 @@ same-pair r s p q =
 
 -- one entry, as the code looks at it
 module _ (few : Bool) (d : ℕ) (r : Record) where
-  pub pair-marked : (pairs : List ℕ) {k : ℕ} {then : List ℕ} → isOther d r ≡ true → k ≡ bit_of few r → then ≡ withBit pairs k → then ≡ pairMarked few d r pairs
-  unfolding pairMarked
-  pair-marked pairs e q t = t ∙ rw q (marked-yes withBit (isOther d) (bit_of few) r pairs e)
+  pub pair-marked : (pairs : List ℕ) {k : ℕ} {then : List ℕ} → is_other d r ≡ true → k ≡ bit_of few r → then ≡ with_bit pairs k → then ≡ pair_marked few d r pairs
+  unfolding pair_marked
+  pair-marked pairs e q t = t ∙ rw q (marked-yes with_bit (is_other d) (bit_of few) r pairs e)
 
-  pub pair-kept : (pairs : List ℕ) → isOther d r ≡ false → pairs ≡ pairMarked few d r pairs
-  unfolding pairMarked
-  pair-kept pairs e = marked-no withBit (isOther d) (bit_of few) r pairs e
+  pub pair-kept : (pairs : List ℕ) → is_other d r ≡ false → pairs ≡ pair_marked few d r pairs
+  unfolding pair_marked
+  pair-kept pairs e = marked-no with_bit (is_other d) (bit_of few) r pairs e
 
-  pub pair-long : (pairs : List ℕ) → length (pairMarked few d r pairs) ≡ length pairs
-  unfolding pairMarked marked
-  pair-long pairs = elim (bool_cases (isOther d r)) [ inl e ↦ rw e (length-bit pairs (bit_of few r)) | inr e ↦ rw e ]
+  pub pair-long : (pairs : List ℕ) → length (pair_marked few d r pairs) ≡ length pairs
+  unfolding pair_marked marked
+  pair-long pairs = elim (bool_cases (is_other d r)) [ inl e ↦ rw e (length-bit pairs (bit_of few r)) | inr e ↦ rw e ]
 
-  pub of-day-cancelled : not (isCancelled r && eqb (key r).day d) ≡ false → isCancelled r ≡ true
-  of-day-cancelled h = (and_split (isCancelled r) (eqb (key r).day d) (not-false _ h)).0
+  pub of-day-cancelled : not (is_cancelled r && eqb (key r).day d) ≡ false → is_cancelled r ≡ true
+  of-day-cancelled h = (and_split (is_cancelled r) (eqb (key r).day d) (not-false _ h)).0
 
   module _ (among : List Bool) (pairs : List ℕ) (flags : List Bool) where
     abbrev Marked : List Bool
-    Marked = buyerMarked few d among pairs r flags
+    Marked = buyer_marked few d among pairs r flags
 
-    pub buyer-not : not (isCancelled r && eqb (key r).day d) ≡ true → flags ≡ Marked
-    unfolding buyerMarked isHit
-    buyer-not h = marked-no withFlag (isHit few d among pairs) (λ x. (key x).counterparty) r flags (rw (not-true (isCancelled r && eqb (key r).day d) h))
+    pub buyer-not : not (is_cancelled r && eqb (key r).day d) ≡ true → flags ≡ Marked
+    unfolding buyer_marked is_hit
+    buyer-not h = marked-no with_flag (is_hit few d among pairs) (λ x. (key x).counterparty) r flags (rw (not-true (is_cancelled r && eqb (key r).day d) h))
 
     -- past that test: the buyer's flag among some, and the bit
-    module _ (h : not (isCancelled r && eqb (key r).day d) ≡ false) {k : ℕ} (n : k ≡ bit_of few r) {bit : Bool} (q : bit ≡ bit_at pairs k) where
-      hit : isHit few d among pairs r ≡ flagged among (key r).counterparty && bit
-      unfolding isHit
-      hit = rw (not-false (isCancelled r && eqb (key r).day d) h, q, n)
+    module _ (h : not (is_cancelled r && eqb (key r).day d) ≡ false) {k : ℕ} (n : k ≡ bit_of few r) {bit : Bool} (q : bit ≡ bit_at pairs k) where
+      hit : is_hit few d among pairs r ≡ flagged among (key r).counterparty && bit
+      unfolding is_hit
+      hit = rw (not-false (is_cancelled r && eqb (key r).day d) h, q, n)
 
-      pub buyer-marked : {then : List Bool} → flagged among (key r).counterparty && bit ≡ true → then ≡ withFlag flags (key r).counterparty → then ≡ Marked
-      unfolding buyerMarked
-      buyer-marked e t = t ∙ marked-yes withFlag (isHit few d among pairs) (λ x. (key x).counterparty) r flags (hit ∙ e)
+      pub buyer-marked : {then : List Bool} → flagged among (key r).counterparty && bit ≡ true → then ≡ with_flag flags (key r).counterparty → then ≡ Marked
+      unfolding buyer_marked
+      buyer-marked e t = t ∙ marked-yes with_flag (is_hit few d among pairs) (λ x. (key x).counterparty) r flags (hit ∙ e)
 
       pub buyer-kept : flagged among (key r).counterparty && bit ≡ false → flags ≡ Marked
-      unfolding buyerMarked
-      buyer-kept e = marked-no withFlag (isHit few d among pairs) (λ x. (key x).counterparty) r flags (hit ∙ e)
+      unfolding buyer_marked
+      buyer-kept e = marked-no with_flag (is_hit few d among pairs) (λ x. (key x).counterparty) r flags (hit ∙ e)
 
 -- the marks of entries one after the other
 module _ (few : Bool) (d : ℕ) where
-  other-in : (s : Record) → legal s ≡ true → isOther d s ≡ true → bit_of few s < 64 * bitWords few
+  other-in : (s : Record) → legal s ≡ true → is_other d s ≡ true → bit_of few s < 64 * bit_words few
   other-in s l e = pair-in few s (paired s l (other-cancelled d s e)) refl
 
-  pub length_pairs : (rs : List Record) → length (over (pairMarked few d) rs (blank (bitWords few))) ≡ bitWords few
-  unfolding pairMarked
+  pub length_pairs : (rs : List Record) → length (over (pair_marked few d) rs (blank (bit_words few))) ≡ bit_words few
+  unfolding pair_marked
   length_pairs rs =
-      length_over withBit (isOther d) (bit_of few) bit_at (bitWords few) (64 * bitWords few) length-bit (bit-after (bitWords few)) other-in rs (blank (bitWords few)) ∙ length-words few
+      length_over with_bit (is_other d) (bit_of few) bit_at (bit_words few) (64 * bit_words few) length-bit (bit-after (bit_words few)) other-in rs (blank (bit_words few)) ∙ length-words few
 
-  pub pairs-scanned : {ws pairs : List ℕ} {n i : ℕ} → Scanned (pairMarked few d) (blank (bitWords few)) ws n i pairs → length pairs ≡ bitWords few
-  pairs-scanned {ws} {i = i} p = ap length p.state ∙ length_pairs (readTo ws i)
+  pub pairs-scanned : {ws pairs : List ℕ} {n i : ℕ} → Scanned (pair_marked few d) (blank (bit_words few)) ws n i pairs → length pairs ≡ bit_words few
+  pairs-scanned {ws} {i = i} p = ap length p.state ∙ length_pairs (read_to ws i)
 
-  pub pairs-same : {ws blanks pairs : List ℕ} {n i : ℕ} → blanks ≡ blank (bitWords few) → Scanned (pairMarked few d) (blank (bitWords few)) ws n i pairs → length pairs ≡ length blanks
+  pub pairs-same : {ws blanks pairs : List ℕ} {n i : ℕ} → blanks ≡ blank (bit_words few) → Scanned (pair_marked few d) (blank (bit_words few)) ws n i pairs → length pairs ≡ length blanks
   pairs-same e p = pairs-scanned p ∙ sym (ap length e ∙ length-words few)
 
-  pub pairs-long : (rs : List Record) {pairs : List ℕ} → pairs ≡ pairsOf few d rs → length pairs ≡ bitWords few
-  unfolding pairsOf
+  pub pairs-long : (rs : List Record) {pairs : List ℕ} → pairs ≡ pairs_of few d rs → length pairs ≡ bit_words few
+  unfolding pairs_of
   pairs-long rs e = ap length e ∙ length_pairs rs
 
   module _ (rs : List Record) (ok : all legal rs ≡ true) where
-    pair-bit : (r : Record) → bit_at (pairsOf few d rs) (bit_of few r) ≡ any (sharesBit few d r) rs
-    unfolding pairsOf pairMarked
+    pair-bit : (r : Record) → bit_at (pairs_of few d rs) (bit_of few r) ≡ any (shares_bit few d r) rs
+    unfolding pairs_of pair_marked
     pair-bit r =
-        over-marked withBit (isOther d) (bit_of few) bit_at (bitWords few) (64 * bitWords few) length-bit (bit-after (bitWords few)) other-in rs (blank (bitWords few)) (bit_of few r) ok (length-words few)
-        ∙ or-none _ _ (no-bit (bitWords few) (bit_of few r))
+        over-marked with_bit (is_other d) (bit_of few) bit_at (bit_words few) (64 * bit_words few) length-bit (bit-after (bit_words few)) other-in rs (blank (bit_words few)) (bit_of few r) ok (length-words few)
+        ∙ or-none _ _ (no-bit (bit_words few) (bit_of few r))
 
     -- a cancelled entry of the day and this buyer that shares its bit
-    abbrev ofBuyer : ℕ → Record → Bool
-    ofBuyer p r = every (isCancelled r ∷ eqb (key r).day d ∷ eqb (key r).counterparty p ∷ any (sharesBit few d r) rs ∷ [])
+    abbrev of_buyer : ℕ → Record → Bool
+    of_buyer p r = every (is_cancelled r ∷ eqb (key r).day d ∷ eqb (key r).counterparty p ∷ any (shares_bit few d r) rs ∷ [])
 
     module _ (among : List Bool) where
-      hit-buyer : (r : Record) → legal r ≡ true → isHit few d among (pairsOf few d rs) r ≡ true → (key r).counterparty < 1000
-      unfolding isHit
+      hit-buyer : (r : Record) → legal r ≡ true → is_hit few d among (pairs_of few d rs) r ≡ true → (key r).counterparty < 1000
+      unfolding is_hit
       hit-buyer r l e =
-          let c = (every_holds (isCancelled r ∷ eqb (key r).day d ∷ flagged among (key r).counterparty ∷ bit_at (pairsOf few d rs) (bit_of few r) ∷ []) e).0 in
+          let c = (every_holds (is_cancelled r ∷ eqb (key r).day d ∷ flagged among (key r).counterparty ∷ bit_at (pairs_of few d rs) (bit_of few r) ∷ []) e).0 in
           let p = paired r l c in
           omega arith
 
-      buyers-flagged : flagged (buyersOf few d among (pairsOf few d rs) rs) ≡ likelyAmong few d rs among
-      unfolding buyersOf buyerMarked likelyAmong likelyBuyer isHit
+      buyers-flagged : flagged (buyers_of few d among (pairs_of few d rs) rs) ≡ likely_among few d rs among
+      unfolding buyers_of buyer_marked likely_among likely_buyer is_hit
       buyers-flagged = fun_ext at
         where
           order : (c o f g e : Bool) → (((c && o) && f) && g) && e ≡ f && (((c && o) && e) && g)
@@ -288,81 +288,81 @@ module _ (few : Bool) (d : ℕ) where
           order false o true g e = refl
           order false o false g e = refl
 
-          same : (p : ℕ) (r : Record) → legal r ≡ true → isHit few d among (pairsOf few d rs) r && eqb (key r).counterparty p ≡ flagged among p && ofBuyer p r
+          same : (p : ℕ) (r : Record) → legal r ≡ true → is_hit few d among (pairs_of few d rs) r && eqb (key r).counterparty p ≡ flagged among p && of_buyer p r
           same p r l =
               elim (bool_cases (eqb (key r).counterparty p)) [
                 | inl e ↦
                     let q : (key r).counterparty ≡ p = eqb-true _ _ e in
-                    rw (pair-bit r) (order (isCancelled r) (eqb (key r).day d) (flagged among (key r).counterparty) (any (sharesBit few d r) rs) (eqb (key r).counterparty p) ∙ ap (λ n. flagged among n && ofBuyer p r) q)
-                | inr e ↦ rw e (and-false (isHit few d among (pairsOf few d rs) r) ∙ sym (ap (λ x. flagged among p && (x && any (sharesBit few d r) rs)) (and-false (isCancelled r && eqb (key r).day d)) ∙ and-false (flagged among p)))
+                    rw (pair-bit r) (order (is_cancelled r) (eqb (key r).day d) (flagged among (key r).counterparty) (any (shares_bit few d r) rs) (eqb (key r).counterparty p) ∙ ap (λ n. flagged among n && of_buyer p r) q)
+                | inr e ↦ rw e (and-false (is_hit few d among (pairs_of few d rs) r) ∙ sym (ap (λ x. flagged among p && (x && any (shares_bit few d r) rs)) (and-false (is_cancelled r && eqb (key r).day d)) ∙ and-false (flagged among p)))
               ]
 
-          at : (p : ℕ) → flagged (buyersOf few d among (pairsOf few d rs) rs) p ≡ likelyAmong few d rs among p
+          at : (p : ℕ) → flagged (buyers_of few d among (pairs_of few d rs) rs) p ≡ likely_among few d rs among p
           at p =
-              over-marked withFlag (isHit few d among (pairsOf few d rs)) (λ r. (key r).counterparty) flagged 1000 1000 length-flag flag-after hit-buyer rs noFlags p ok length-no-flags
+              over-marked with_flag (is_hit few d among (pairs_of few d rs)) (λ r. (key r).counterparty) flagged 1000 1000 length-flag flag-after hit-buyer rs no_flags p ok length-no_flags
               ∙ or-none _ _ (no_flag p)
               ∙ any_same legal _ _ (same p) rs ok
-              ∙ any-and (flagged among p) (ofBuyer p) rs
+              ∙ any-and (flagged among p) (of_buyer p) rs
 
 -- the code's bits and flags of a book
-pub buyers-are : (few : Bool) (d : ℕ) (ws : List ℕ) (among : List Bool) (buyers : List Bool) {pairs : List ℕ} → isBook ws ≡ true →
-    pairs ≡ pairsOf few d (entries ws) → buyers ≡ buyersOf few d among pairs (entries ws) → flagged buyers ≡ likelyAmong few d (entries ws) among
+pub buyers-are : (few : Bool) (d : ℕ) (ws : List ℕ) (among : List Bool) (buyers : List Bool) {pairs : List ℕ} → is_book ws ≡ true →
+    pairs ≡ pairs_of few d (entries ws) → buyers ≡ buyers_of few d among pairs (entries ws) → flagged buyers ≡ likely_among few d (entries ws) among
 buyers-are few d ws among buyers b p q =
-    ap flagged (q ∙ ap (λ x. buyersOf few d among x (entries ws)) p) ∙ buyers-flagged few d (entries ws) (book-facts ws b).legals among
+    ap flagged (q ∙ ap (λ x. buyers_of few d among x (entries ws)) p) ∙ buyers-flagged few d (entries ws) (book-facts ws b).legals among
 
 -- the entries of other days, counted one after the other
 pub one-most : (b : Bool) {n : ℕ} → n ≡ cond b 1 0 → n ≤ 1
 one-most b e = rw e (cond_below b 1)
 
-module _ (d : ℕ) (ws : List ℕ) (i : ℕ) {n : ℕ} (c : n ≡ count (isOther d) (readTo ws i)) where
+module _ (d : ℕ) (ws : List ℕ) (i : ℕ) {n : ℕ} (c : n ≡ count (is_other d) (read_to ws i)) where
   pub others-few : n ≤ i
-  others-few = omega (arith, count-le-length (isOther d) (readTo ws i), length-read i (drop 3 ws))
+  others-few = omega (arith, count-le-length (is_other d) (read_to ws i), length-read i (drop 3 ws))
 
-  pub others-next : {e : Entry} {k : ℕ} → e ≡ entryOf (readAt ws i) → k ≡ cond (isOther d (recordIn e)) 1 0 → n + k ≡ count (isOther d) (readTo ws (i + 1))
+  pub others-next : {e : Entry} {k : ℕ} → e ≡ entry_of (read_at ws i) → k ≡ cond (is_other d (record_in e)) 1 0 → n + k ≡ count (is_other d) (read_to ws (i + 1))
   unfolding count
-  others-next q k = ap₂ ◌+◌ c (k ∙ ap (λ x. cond (isOther d (recordIn x)) 1 0) q) ∙ sym (total-next (λ r. cond (isOther d r) 1 0) ws i)
+  others-next q k = ap₂ ◌+◌ c (k ∙ ap (λ x. cond (is_other d (record_in x)) 1 0) q) ∙ sym (total-next (λ r. cond (is_other d r) 1 0) ws i)
 
-  pub others-all : {last : ℕ} → last ≡ countOf ws → i ≤ last → last ≤ i → n ≡ count (isOther d) (entries ws)
+  pub others-all : {last : ℕ} → last ≡ count_of ws → i ≤ last → last ≤ i → n ≡ count (is_other d) (entries ws)
   unfolding entries
-  others-all l h k = let e : i ≡ countOf ws = omega arith in c ∙ ap (λ j. count (isOther d) (readTo ws j)) e
+  others-all l h k = let e : i ≡ count_of ws = omega arith in c ∙ ap (λ j. count (is_other d) (read_to ws j)) e
 
 -- where there is none, no bit is shared
-pub no-others : (few : Bool) (d : ℕ) (ws : List ℕ) (among flags : List Bool) {n : ℕ} → n ≡ count (isOther d) (entries ws) → n ≡ 0 → flags ≡ noFlags → flagged flags ≡ likelyAmong few d (entries ws) among
-unfolding likelyAmong likelyBuyer
+pub no-others : (few : Bool) (d : ℕ) (ws : List ℕ) (among flags : List Bool) {n : ℕ} → n ≡ count (is_other d) (entries ws) → n ≡ 0 → flags ≡ no_flags → flagged flags ≡ likely_among few d (entries ws) among
+unfolding likely_among likely_buyer
 no-others few d ws among flags c z f =
     fun_ext
     (λ p.
     ap (λ x. flagged x p) f ∙ no_flag p
     ∙ sym (ap (λ b. flagged among p && b) (none p (entries ws)) ∙ and-false (flagged among p)))
   where
-    alone : (r : Record) → any (sharesBit few d r) (entries ws) ≡ false
-    alone r = any_none _ (isOther d) (λ s e. rw e) (entries ws) (none-counted (isOther d) (entries ws) (sym c ∙ z))
+    alone : (r : Record) → any (shares_bit few d r) (entries ws) ≡ false
+    alone r = any_none _ (is_other d) (λ s e. rw e) (entries ws) (none-counted (is_other d) (entries ws) (sym c ∙ z))
 
-    none : (p : ℕ) (rs : List Record) → any (λ r. every (isCancelled r ∷ eqb (key r).day d ∷ eqb (key r).counterparty p ∷ any (sharesBit few d r) (entries ws) ∷ [])) rs ≡ false
-    none p = any-never _ (λ r. rw (alone r) (and-false ((isCancelled r && eqb (key r).day d) && eqb (key r).counterparty p)))
+    none : (p : ℕ) (rs : List Record) → any (λ r. every (is_cancelled r ∷ eqb (key r).day d ∷ eqb (key r).counterparty p ∷ any (shares_bit few d r) (entries ws) ∷ [])) rs ≡ false
+    none p = any-never _ (λ r. rw (alone r) (and-false ((is_cancelled r && eqb (key r).day d) && eqb (key r).counterparty p)))
 
 -- a repeated pair shares its bit with itself, whatever the number of bits
-shares : (few : Bool) (d : ℕ) (r s : Record) → isEarlierOrLater d r s ≡ true → sharesBit few d r s ≡ true
-unfolding isOther
+shares : (few : Bool) (d : ℕ) (r s : Record) → is_earlier_or_later d r s ≡ true → shares_bit few d r s ≡ true
+unfolding is_other
 shares few d r s e =
-    let h = every_holds (isCancelled s ∷ eqb (key s).party (key r).party ∷ eqb (key s).counterparty (key r).counterparty ∷ not (eqb (key s).day d) ∷ eqb (monthOf (key s).day) (monthOf d) ∷ []) e in
+    let h = every_holds (is_cancelled s ∷ eqb (key s).party (key r).party ∷ eqb (key s).counterparty (key r).counterparty ∷ not (eqb (key s).day d) ∷ eqb (month_of (key s).day) (month_of d) ∷ []) e in
     let x = eqb-true (key s).party (key r).party h.1.0 in
     let y = eqb-true (key s).counterparty (key r).counterparty h.1.1.0 in
-    let o = holds-every (isCancelled s ∷ not (eqb (key s).day d) ∷ eqb (monthOf (key s).day) (monthOf d) ∷ []) (h.0, h.1.1.1) in
+    let o = holds-every (is_cancelled s ∷ not (eqb (key s).day d) ∷ eqb (month_of (key s).day) (month_of d) ∷ []) (h.0, h.1.1.1) in
     and-join _ _ o (eq-eqb _ _ (ap₂ (λ p c. cond few ((1024 * p + c) % 4096) (1024 * p + c)) x y))
 
-pub repeated-likely : (few : Bool) (d : ℕ) (rs : List Record) (p : ℕ) → isRepeatedBuyer d rs p ≡ true → likelyBuyer few d rs p ≡ true
-unfolding isRepeatedBuyer likelyBuyer
+pub repeated-likely : (few : Bool) (d : ℕ) (rs : List Record) (p : ℕ) → is_repeated_buyer d rs p ≡ true → likely_buyer few d rs p ≡ true
+unfolding is_repeated_buyer likely_buyer
 repeated-likely few d rs p =
     any-more _ _
     (λ r e.
-    let h = every_holds (isCancelled r ∷ eqb (key r).day d ∷ eqb (key r).counterparty p ∷ any (isEarlierOrLater d r) rs ∷ []) e in
-    holds-every (isCancelled r ∷ eqb (key r).day d ∷ eqb (key r).counterparty p ∷ any (sharesBit few d r) rs ∷ []) (h.0, (h.1.0, (h.1.1.0, (any-more _ _ (shares few d r) rs h.1.1.1.0, tt)))))
+    let h = every_holds (is_cancelled r ∷ eqb (key r).day d ∷ eqb (key r).counterparty p ∷ any (is_earlier_or_later d r) rs ∷ []) e in
+    holds-every (is_cancelled r ∷ eqb (key r).day d ∷ eqb (key r).counterparty p ∷ any (shares_bit few d r) rs ∷ []) (h.0, (h.1.0, (h.1.1.0, (any-more _ _ (shares few d r) rs h.1.1.1.0, tt)))))
     rs
 
 -- with a bit for each pair, no other does
-pub likely-repeated : (d : ℕ) (rs : List Record) → all legal rs ≡ true → likelyBuyer false d rs ≡ isRepeatedBuyer d rs
-unfolding isRepeatedBuyer likelyBuyer isOther
+pub likely-repeated : (d : ℕ) (rs : List Record) → all legal rs ≡ true → likely_buyer false d rs ≡ is_repeated_buyer d rs
+unfolding is_repeated_buyer likely_buyer is_other
 likely-repeated d rs ok = fun_ext (λ p. any_same legal _ _ (same p) rs ok)
   where
     order : (p b o m : Bool) → (o && m) && (p && b) ≡ ((p && b) && o) && m
@@ -374,20 +374,20 @@ likely-repeated d rs ok = fun_ext (λ p. any_same legal _ _ (same p) rs ok)
     order true false o m = and-false (o && m)
     order false b o m = and-false (o && m)
 
-    pair : (r : Record) → Paired r → (s : Record) → legal s ≡ true → sharesBit false d r s ≡ isEarlierOrLater d r s
+    pair : (r : Record) → Paired r → (s : Record) → legal s ≡ true → shares_bit false d r s ≡ is_earlier_or_later d r s
     pair r p s l =
-        elim (bool_cases (isCancelled s)) [
+        elim (bool_cases (is_cancelled s)) [
           | inl e ↦
               rw (same-pair r s p (paired s l e), e)
-              (order (eqb (key s).party (key r).party) (eqb (key s).counterparty (key r).counterparty) (not (eqb (key s).day d)) (eqb (monthOf (key s).day) (monthOf d)))
+              (order (eqb (key s).party (key r).party) (eqb (key s).counterparty (key r).counterparty) (not (eqb (key s).day d)) (eqb (month_of (key s).day) (month_of d)))
           | inr e ↦ rw e
         ]
 
     same : (p : ℕ) (r : Record) → legal r ≡ true →
-        every (isCancelled r ∷ eqb (key r).day d ∷ eqb (key r).counterparty p ∷ any (sharesBit false d r) rs ∷ [])
-        ≡ every (isCancelled r ∷ eqb (key r).day d ∷ eqb (key r).counterparty p ∷ any (isEarlierOrLater d r) rs ∷ [])
+        every (is_cancelled r ∷ eqb (key r).day d ∷ eqb (key r).counterparty p ∷ any (shares_bit false d r) rs ∷ [])
+        ≡ every (is_cancelled r ∷ eqb (key r).day d ∷ eqb (key r).counterparty p ∷ any (is_earlier_or_later d r) rs ∷ [])
     same p r l =
-        elim (bool_cases (isCancelled r)) [
-          | inl e ↦ ap (λ x. ((isCancelled r && eqb (key r).day d) && eqb (key r).counterparty p) && x) (any_same legal _ _ (pair r (paired r l e)) rs ok)
+        elim (bool_cases (is_cancelled r)) [
+          | inl e ↦ ap (λ x. ((is_cancelled r && eqb (key r).day d) && eqb (key r).counterparty p) && x) (any_same legal _ _ (pair r (paired r l e)) rs ok)
           | inr e ↦ rw e
         ]

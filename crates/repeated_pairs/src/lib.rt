@@ -1,12 +1,12 @@
 // Internal: the buyers of repeated pairs, by two scans of a checked book. A caller meets each `requires`.
 ghost use Rattle.std.specs.Prelude.{◌≡◌, true, false, cond, length};
-ghost use Rattle.calendar.specs.Calendar.{monthOf};
-ghost use Rattle.rules.specs.Entry.{legal, recordIn};
-ghost use Rattle.rules.specs.Words.{isBook, entries};
+ghost use Rattle.calendar.specs.Calendar.{month_of};
+ghost use Rattle.rules.specs.Entry.{legal, record_in};
+ghost use Rattle.rules.specs.Words.{is_book, entries};
 ghost use Rattle.numbers.specs.Sums.{count};
 ghost use Rattle.cells.specs.Cells.{blank};
-ghost use Rattle.repeated_pairs.specs.Flags.{flagged, noFlags};
-ghost use Rattle.repeated_pairs.specs.Pairs.{IsPeriod, isOther, Paired, bit_of, bitWords, pairMarked, pairsOf, buyerMarked, buyersOf, likelyAmong};
+ghost use Rattle.repeated_pairs.specs.Flags.{flagged, no_flags};
+ghost use Rattle.repeated_pairs.specs.Pairs.{IsPeriod, is_other, Paired, bit_of, bit_words, pair_marked, pairs_of, buyer_marked, buyers_of, likely_among};
 
 use calendar::rule;
 use parties::Flags;
@@ -32,7 +32,7 @@ struct Period {
 
 // The month of a day, by the table of months.
 fn month_at(day: u32) -> u32
-    ensures { result ≡ monthOf day }
+    ensures { result ≡ month_of day }
 {
     calendar::month_of(day)
 }
@@ -51,8 +51,8 @@ fn period_of(day: u32) -> Period
 // A cancelled entry of another day of the same billing period.
 fn is_other(e: Entry, day: u32, period: Period) -> bool
     requires period { IsPeriod day period }
-    requires e_value { legal (recordIn e) ≡ true }
-    ensures { result ≡ isOther day (recordIn e) }
+    requires e_value { legal (record_in e) ≡ true }
+    ensures { result ≡ is_other day (record_in e) }
 {
     (e.status == CANCELLED)
         & !(e.key.day == day)
@@ -61,8 +61,8 @@ fn is_other(e: Entry, day: u32, period: Period) -> bool
 
 // The bit of an entry's pair: 1,024 bits a seller, one a buyer. Of few bits a pair shares its own with others.
 fn bit_of(e: Entry, few: bool) -> usize
-    requires { Paired (recordIn e) }
-    ensures { result ≡ bit_of few (recordIn e) }
+    requires { Paired (record_in e) }
+    ensures { result ≡ bit_of few (record_in e) }
 {
     let pair = (1024 * e.key.party + e.key.counterparty) as usize;
     if few { pair % FEW_BITS } else { pair }
@@ -70,10 +70,10 @@ fn bit_of(e: Entry, few: bool) -> usize
 
 fn mark_pair(pairs: &mut [u64], e: Entry, day: u32, period: Period, few: bool) -> u32
     requires period { IsPeriod day period }
-    requires e_value { legal (recordIn e) ≡ true }
-    requires pairs_len { length pairs.old ≡ bitWords few }
-    ensures one { result ≡ cond (isOther day (recordIn e)) 1 0 }
-    ensures bits { pairs.new ≡ pairMarked few day (recordIn e) pairs.old }
+    requires e_value { legal (record_in e) ≡ true }
+    requires pairs_len { length pairs.old ≡ bit_words few }
+    ensures one { result ≡ cond (is_other day (record_in e)) 1 0 }
+    ensures bits { pairs.new ≡ pair_marked few day (record_in e) pairs.old }
 {
     let other = is_other(e, day, period);
     if other {
@@ -85,10 +85,10 @@ fn mark_pair(pairs: &mut [u64], e: Entry, day: u32, period: Period, few: bool) -
 
 // Marks the pairs with a cancelled entry of another day of the billing period, and counts these entries.
 fn mark_pairs(book: &[u32], day: u32, few: bool, pairs: &mut [u64]) -> u32
-    requires book_value { isBook book.now ≡ true }
-    requires pairs_value { pairs.old ≡ blank (bitWords few) }
-    ensures others { result ≡ count (isOther day) (entries book.now) }
-    ensures bits { pairs.new ≡ pairsOf few day (entries book.now) }
+    requires book_value { is_book book.now ≡ true }
+    requires pairs_value { pairs.old ≡ blank (bit_words few) }
+    ensures others { result ≡ count (is_other day) (entries book.now) }
+    ensures bits { pairs.new ≡ pairs_of few day (entries book.now) }
 {
     let period = period_of(day);
     let last = words::count_of(book) as usize;
@@ -104,9 +104,9 @@ fn mark_pairs(book: &[u32], day: u32, few: bool, pairs: &mut [u64]) -> u32
 
 // Flags the buyer, of those among some, of a cancelled entry of the day whose bit is marked.
 fn mark_buyer(buyers: &mut Flags, e: Entry, day: u32, few: bool, among: &Flags, pairs: &[u64])
-    requires e_value { legal (recordIn e) ≡ true }
-    requires pairs_len { length pairs.now ≡ bitWords few }
-    ensures { buyers.new ≡ buyerMarked few day among.now pairs.now (recordIn e) buyers.old }
+    requires e_value { legal (record_in e) ≡ true }
+    requires pairs_len { length pairs.now ≡ bit_words few }
+    ensures { buyers.new ≡ buyer_marked few day among.now pairs.now (record_in e) buyers.old }
 {
     if !((e.status == CANCELLED) & (e.key.day == day)) {
         return;
@@ -119,10 +119,10 @@ fn mark_buyer(buyers: &mut Flags, e: Entry, day: u32, few: bool, among: &Flags, 
 }
 
 fn mark_buyers(book: &[u32], day: u32, few: bool, among: &Flags, pairs: &[u64], buyers: &mut Flags)
-    requires book_value { isBook book.now ≡ true }
-    requires pairs_len { length pairs.now ≡ bitWords few }
-    requires buyers_value { buyers.old ≡ noFlags }
-    ensures { buyers.new ≡ buyersOf few day among.now pairs.now (entries book.now) }
+    requires book_value { is_book book.now ≡ true }
+    requires pairs_len { length pairs.now ≡ bit_words few }
+    requires buyers_value { buyers.old ≡ no_flags }
+    ensures { buyers.new ≡ buyers_of few day among.now pairs.now (entries book.now) }
 {
     let count = words::count_of(book) as usize;
     let mut i = 0;
@@ -143,10 +143,10 @@ fn flag_buyers(
     pairs: &mut [u64],
     buyers: &mut Flags,
 )
-    requires book_value { isBook book.now ≡ true }
-    requires pairs_value { pairs.old ≡ blank (bitWords few) }
-    requires buyers_value { buyers.old ≡ noFlags }
-    ensures { flagged buyers.new ≡ likelyAmong few day (entries book.now) among.now }
+    requires book_value { is_book book.now ≡ true }
+    requires pairs_value { pairs.old ≡ blank (bit_words few) }
+    requires buyers_value { buyers.old ≡ no_flags }
+    ensures { flagged buyers.new ≡ likely_among few day (entries book.now) among.now }
 {
     if mark_pairs(book, day, few, pairs) != 0 {
         mark_buyers(book, day, few, among, pairs, buyers);
@@ -155,9 +155,9 @@ fn flag_buyers(
 
 // By few bits, in a small array: where nobody is flagged, no pair is repeated.
 pub fn flag_likely(book: &[u32], day: u32, among: &Flags, buyers: &mut Flags)
-    requires book_value { isBook book.now ≡ true }
-    requires buyers_value { buyers.old ≡ noFlags }
-    ensures { flagged buyers.new ≡ likelyAmong true day (entries book.now) among.now }
+    requires book_value { is_book book.now ≡ true }
+    requires buyers_value { buyers.old ≡ no_flags }
+    ensures { flagged buyers.new ≡ likely_among true day (entries book.now) among.now }
 {
     let mut pairs = [0u64; FEW_WORDS];
     flag_buyers(book, day, true, among, &mut pairs, buyers);
@@ -165,9 +165,9 @@ pub fn flag_likely(book: &[u32], day: u32, among: &Flags, buyers: &mut Flags)
 
 // By a bit for each pair, in 128,000 bytes.
 pub fn flag_repeated(book: &[u32], day: u32, among: &Flags, buyers: &mut Flags)
-    requires book_value { isBook book.now ≡ true }
-    requires buyers_value { buyers.old ≡ noFlags }
-    ensures { flagged buyers.new ≡ likelyAmong false day (entries book.now) among.now }
+    requires book_value { is_book book.now ≡ true }
+    requires buyers_value { buyers.old ≡ no_flags }
+    ensures { flagged buyers.new ≡ likely_among false day (entries book.now) among.now }
 {
     let mut pairs = [0u64; ALL_WORDS];
     flag_buyers(book, day, false, among, &mut pairs, buyers);

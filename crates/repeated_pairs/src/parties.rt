@@ -1,6 +1,6 @@
 // Internal: a flag for each party's number; 0 is no party.
 ghost use Rattle.std.specs.Prelude.{◌≡◌, cond};
-ghost use Rattle.rules.specs.Control.{detectedParties};
+ghost use Rattle.rules.specs.Control.{detected_parties};
 ghost use Rattle.repeated_pairs.specs.Flags.{flagged};
 
 use rules::bounds::NUMBERS;
@@ -16,7 +16,7 @@ pub fn one_if(test: bool) -> u32
 
 // How many are set.
 pub fn count(flags: &Flags) -> u32
-    ensures { result ≡ detectedParties (flagged flags.now) }
+    ensures { result ≡ detected_parties (flagged flags.now) }
 {
     let mut n = 0;
     let mut p = 0;

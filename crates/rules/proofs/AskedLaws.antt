@@ -10,20 +10,20 @@ use borrow.Author.Tests.{le-leb, leb-true}
 use Rattle.numbers.specs.Tests.{all}
 use Rattle.numbers.specs.Causes.{unless, first_of}
 use Rattle.numbers.proofs.TestLaws.{bool_cases, and_split}
-use Rattle.rules.specs.Entry.{partyOk, dayOk}
-use Rattle.rules.specs.Collateral.{monthOk, figuresOk}
-use Rattle.rules.specs.Compared.{IsParty, IsDay, AskedAnswer, askedDone, noParty, noDay, UsedInRange, IsCase, CaseAnswer, caseDone, notAsked, noFigure}
+use Rattle.rules.specs.Entry.{party_ok, day_ok}
+use Rattle.rules.specs.Collateral.{month_ok, figures_ok}
+use Rattle.rules.specs.Compared.{IsParty, IsDay, AskedAnswer, asked_done, no_party, no_day, UsedInRange, IsCase, CaseAnswer, case_done, not_asked, no_figure}
 use Rattle.case_figures.specs.declared.Month.{Month}
 use Rattle.case_figures.specs.declared.Case.{Case}
 use Rattle.rules.proofs.WordLaws.{within-true}
 use Rattle.rules.proofs.Limits.{case-ranges, month-limit}
 
 -- the calls' causes, past 'not a book'
-abbrev pub askedCause : ℕ → ℕ → ℕ
-askedCause p d = first_of (unless (partyOk p) 3 ∷ unless (dayOk d) 4 ∷ [])
+abbrev pub asked_cause : ℕ → ℕ → ℕ
+asked_cause p d = first_of (unless (party_ok p) 3 ∷ unless (day_ok d) 4 ∷ [])
 
-abbrev pub caseCause : Case → ℕ
-caseCause c = first_of (askedCause c.asked.party c.asked.day ∷ unless (figuresOk c) 12 ∷ [])
+abbrev pub case_cause : Case → ℕ
+case_cause c = first_of (asked_cause c.asked.party c.asked.day ∷ unless (figures_ok c) 12 ∷ [])
 
 -- a test and a proposition that say the same: what the one refuses the other does
 fails : {P : Type 0} (t : Bool) → (t ≡ true → P) → ¬ P → t ≡ false
@@ -33,36 +33,36 @@ fails false h n = refl
 refuses : {P : Type 0} (t : Bool) → (P → t ≡ true) → t ≡ false → ¬ P
 refuses t h e p = false≢true (sym e ∙ h p)
 
-is-party : (p : ℕ) → IsParty p → partyOk p ≡ true
+is-party : (p : ℕ) → IsParty p → party_ok p ≡ true
 is-party p h = rw (le-leb 1 p h.0) (le-leb p 999 h.1)
 
-party-is : (p : ℕ) → partyOk p ≡ true → IsParty p
+party-is : (p : ℕ) → party_ok p ≡ true → IsParty p
 party-is p e = within-true 1 999 p e
 
-is-day : (d : ℕ) → IsDay d → dayOk d ≡ true
+is-day : (d : ℕ) → IsDay d → day_ok d ≡ true
 is-day d h = le-leb d 36524 h
 
-day-is : (d : ℕ) → dayOk d ≡ true → IsDay d
+day-is : (d : ℕ) → day_ok d ≡ true → IsDay d
 day-is d e = leb-true d 36524 e
 
 -- month answers that are used
-months-are : (n : ℕ) (ms : List Month) → all monthOk (take n ms) ≡ true → UsedInRange n ms
+months-are : (n : ℕ) (ms : List Month) → all month_ok (take n ms) ≡ true → UsedInRange n ms
 unfolding all
 months-are zero ms e = tt
 months-are (suc n) [] e = tt
 months-are (suc n) (m ∷ ms) e =
-    let s = and_split (monthOk m) (all monthOk (take n ms)) e in
+    let s = and_split (month_ok m) (all month_ok (take n ms)) e in
     let h = month-limit m s.0 in
     (h.0, h.1, months-are n ms s.1)
 
-are-months : (n : ℕ) (ms : List Month) → UsedInRange n ms → all monthOk (take n ms) ≡ true
-unfolding all monthOk
+are-months : (n : ℕ) (ms : List Month) → UsedInRange n ms → all month_ok (take n ms) ≡ true
+unfolding all month_ok
 are-months zero ms h = refl
 are-months (suc n) [] h = refl
 are-months (suc n) (m ∷ ms) h =
     rw (le-leb m.aosmf 1000000 h.0, le-leb (nat_abs m.aedm) 14900000000 h.1) (are-months n ms h.2)
 
-case-is : (c : Case) → figuresOk c ≡ true → IsCase c
+case-is : (c : Case) → figures_ok c ≡ true → IsCase c
 case-is c e =
     let r = case-ranges c e in
     record {
@@ -81,8 +81,8 @@ case-is c e =
       score = r.score;
     }
 
-is-case : (c : Case) → IsCase c → figuresOk c ≡ true
-unfolding figuresOk
+is-case : (c : Case) → IsCase c → figures_ok c ≡ true
+unfolding figures_ok
 is-case c h =
     rw (
       le-leb _ 2 h.licence,
@@ -102,34 +102,34 @@ is-case c h =
     )
 
 -- the answers of the claim are the calls' causes, and every question has one
-pub asked-cause : (p d k : ℕ) → AskedAnswer p d k → askedCause p d ≡ k
-asked-cause p d k (askedDone h g) = rw (is-party p h, is-day d g)
-asked-cause p d k (noParty n) = rw (fails (partyOk p) (party-is p) n)
-asked-cause p d k (noDay h n) = rw (is-party p h, fails (dayOk d) (day-is d) n)
+pub asked-cause : (p d k : ℕ) → AskedAnswer p d k → asked_cause p d ≡ k
+asked-cause p d k (asked_done h g) = rw (is-party p h, is-day d g)
+asked-cause p d k (no_party n) = rw (fails (party_ok p) (party-is p) n)
+asked-cause p d k (no_day h n) = rw (is-party p h, fails (day_ok d) (day-is d) n)
 
-pub asked-answer : (p d : ℕ) → AskedAnswer p d (askedCause p d)
+pub asked-answer : (p d : ℕ) → AskedAnswer p d (asked_cause p d)
 asked-answer p d =
-    elim (bool_cases (partyOk p)) [
+    elim (bool_cases (party_ok p)) [
       | inl e ↦
-          elim (bool_cases (dayOk d)) [
-            | inl g ↦ rw (e, g) (askedDone (party-is p e) (day-is d g))
-            | inr g ↦ rw (e, g) (noDay (party-is p e) (refuses (dayOk d) (is-day d) g))
+          elim (bool_cases (day_ok d)) [
+            | inl g ↦ rw (e, g) (asked_done (party-is p e) (day-is d g))
+            | inr g ↦ rw (e, g) (no_day (party-is p e) (refuses (day_ok d) (is-day d) g))
           ]
-      | inr e ↦ rw e (noParty (refuses (partyOk p) (is-party p) e))
+      | inr e ↦ rw e (no_party (refuses (party_ok p) (is-party p) e))
     ]
 
-pub case-cause : (c : Case) (k : ℕ) → CaseAnswer c k → caseCause c ≡ k
-case-cause c k (caseDone a h) = rw (asked-cause c.asked.party c.asked.day 0 a, is-case c h)
-case-cause c k (notAsked {k = j} a) = rw (asked-cause c.asked.party c.asked.day (suc j) a)
-case-cause c k (noFigure a n) = rw (asked-cause c.asked.party c.asked.day 0 a, fails (figuresOk c) (case-is c) n)
+pub case-cause : (c : Case) (k : ℕ) → CaseAnswer c k → case_cause c ≡ k
+case-cause c k (case_done a h) = rw (asked-cause c.asked.party c.asked.day 0 a, is-case c h)
+case-cause c k (not_asked {k = j} a) = rw (asked-cause c.asked.party c.asked.day (suc j) a)
+case-cause c k (no_figure a n) = rw (asked-cause c.asked.party c.asked.day 0 a, fails (figures_ok c) (case-is c) n)
 
-pub case-answer : (c : Case) → CaseAnswer c (caseCause c)
-case-answer c = go (askedCause c.asked.party c.asked.day) (asked-answer c.asked.party c.asked.day)
+pub case-answer : (c : Case) → CaseAnswer c (case_cause c)
+case-answer c = go (asked_cause c.asked.party c.asked.day) (asked-answer c.asked.party c.asked.day)
   where
-    go : (k : ℕ) → AskedAnswer c.asked.party c.asked.day k → CaseAnswer c (first_of (k ∷ unless (figuresOk c) 12 ∷ []))
+    go : (k : ℕ) → AskedAnswer c.asked.party c.asked.day k → CaseAnswer c (first_of (k ∷ unless (figures_ok c) 12 ∷ []))
     go zero a =
-        elim (bool_cases (figuresOk c)) [
-          | inl e ↦ rw e (caseDone a (case-is c e))
-          | inr e ↦ rw e (noFigure a (refuses (figuresOk c) (is-case c) e))
+        elim (bool_cases (figures_ok c)) [
+          | inl e ↦ rw e (case_done a (case-is c e))
+          | inr e ↦ rw e (no_figure a (refuses (figures_ok c) (is-case c) e))
         ]
-    go (suc k) a = notAsked a
+    go (suc k) a = not_asked a

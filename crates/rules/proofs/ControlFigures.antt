@@ -9,11 +9,11 @@ use Prim.Native.Nat.{ℕ, ◌+◌, ◌*◌, ◌%◌}
 use lib.Dec.{eqb}
 use lib.ListN.{length, replicate, set}
 use Rattle.numbers.specs.Tests.{every}
-use Rattle.rules.specs.Entry.{key_of, recordOf}
-use Rattle.rules.specs.Control.{detectedIn, detectedParties}
-use Rattle.rules.specs.Calls.{controlAnswer}
+use Rattle.rules.specs.Entry.{key_of, record_of}
+use Rattle.rules.specs.Control.{detected_in, detected_parties}
+use Rattle.rules.specs.Calls.{control_answer}
 use Rattle.rules.specs.declared.Controlled.{Controlled}
-use Rattle.rules.proofs.Worked.{postCause, withdrawCause, controlWords, same_numbers, computed}
+use Rattle.rules.proofs.Worked.{post_cause, withdraw_cause, control_words, same_numbers, computed}
 
 -- the five words of an entry whose amount is below 2^28: party, day, type, counterparty, status, amount
 abbrev pub entry : ℕ → ℕ → ℕ → ℕ → ℕ → ℕ → List ℕ
@@ -47,23 +47,23 @@ abbrev pub mark : ℕ → List ℕ
 mark d = entry 0 d 21 0 0 0
 
 -- answer, parties detected in the first and the second pass, entries cancelled
-abbrev countsAre : List ℕ → ℕ → List ℕ → Bool
-countsAre ws d xs =
-    let r : Controlled = controlAnswer ws d in
+abbrev counts_are : List ℕ → ℕ → List ℕ → Bool
+counts_are ws d xs =
+    let r : Controlled = control_answer ws d in
     same_numbers (r.answer ∷ r.first ∷ r.second ∷ r.cancelled ∷ []) xs
 
 -- a control of day 5 leaves these entries and the mark, in just the room that the mark needs, and cancels so many
 abbrev leaves : List (List ℕ) → List (List ℕ) → ℕ → Bool
 leaves es after n =
     every
-    (same_numbers (controlWords (page es 5) 5) (page (after ++ (mark 5 ∷ [])) 0)
-    ∷ eqb (controlAnswer (page es 5) 5).answer 0
-    ∷ eqb (controlAnswer (page es 5) 5).cancelled n
+    (same_numbers (control_words (page es 5) 5) (page (after ++ (mark 5 ∷ [])) 0)
+    ∷ eqb (control_answer (page es 5) 5).answer 0
+    ∷ eqb (control_answer (page es 5) 5).cancelled n
     ∷ [])
 
 -- First pass: that day's standing bilateral sales of detected parties, counterparty above 0, become cancelled
-pub firstPasses : List Bool
-firstPasses =
+pub first_passes : List Bool
+first_passes =
     -- sales of 100 are clear, of 101 detected; twice a cover of 60 is 120; one party's sales to two buyers, two sellers to one buyer
     leaves (sale 1 5 2 100 ∷ []) (sale 1 5 2 100 ∷ []) 0
     ∷ leaves (sale 1 5 2 101 ∷ []) (void 1 5 2 101 ∷ []) 1
@@ -99,17 +99,17 @@ firstPasses =
     ((0x10000001 ∷ 0x20000005 ∷ 0x32000206 ∷ 0x4B9ACA00 ∷ 0x50000003 ∷ []) ∷ [])
     1
     -- parties are 1 to 999: no other number is detected, whatever records there were
-    ∷ detectedIn 200 100 5 (recordOf (key_of 999 5 1 0) 0 101 ∷ []) 999
-    ∷ not (detectedIn 200 100 5 (recordOf (key_of 1000 5 1 0) 0 101 ∷ []) 1000)
-    ∷ not (detectedIn 200 100 5 (recordOf (key_of 0 5 1 0) 0 101 ∷ []) 0)
+    ∷ detected_in 200 100 5 (record_of (key_of 999 5 1 0) 0 101 ∷ []) 999
+    ∷ not (detected_in 200 100 5 (record_of (key_of 1000 5 1 0) 0 101 ∷ []) 1000)
+    ∷ not (detected_in 200 100 5 (record_of (key_of 0 5 1 0) 0 101 ∷ []) 0)
     -- a day without entries; a book without entries
     ∷ leaves (sale 1 6 2 101 ∷ []) (sale 1 6 2 101 ∷ []) 0
     ∷ leaves [] [] 0
     ∷ []
 
-pub firstPasses-hold : every firstPasses ≡ true
-unfolding computed joined firstPasses
-firstPasses-hold = refl
+pub first_passes-hold : every first_passes ≡ true
+unfolding computed joined first_passes
+first_passes-hold = refl
 
 -- Second pass: 1's sale of 101 to 2 is cancelled in the first; 2's sale of 202 to 3 was covered by it alone and goes
 -- if the pair is repeated, that is, if the third entry is a cancelled one of the pair on another day of the month
@@ -119,8 +119,8 @@ repeats e = leaves (sale 1 5 2 101 ∷ sale 2 5 3 202 ∷ e ∷ []) (void 1 5 2 
 abbrev differs : List ℕ → Bool
 differs e = leaves (sale 1 5 2 101 ∷ sale 2 5 3 202 ∷ e ∷ []) (void 1 5 2 101 ∷ sale 2 5 3 202 ∷ e ∷ []) 1
 
-pub secondPasses : List Bool
-secondPasses =
+pub second_passes : List Bool
+second_passes =
     -- before and after, on the month's first and last day
     repeats (void 1 4 2 7)
     ∷ repeats (void 1 6 2 7)
@@ -180,87 +180,87 @@ secondPasses =
     2
     -- on the last day of the table's first month, with a pair of that month
     ∷ same_numbers
-    (controlWords (page (sale 1 30 999 101 ∷ sale 999 30 3 202 ∷ void 1 0 999 7 ∷ []) 5) 30)
+    (control_words (page (sale 1 30 999 101 ∷ sale 999 30 3 202 ∷ void 1 0 999 7 ∷ []) 5) 30)
     (page (void 1 30 999 101 ∷ void 999 30 3 202 ∷ void 1 0 999 7 ∷ mark 30 ∷ []) 0)
     ∷ []
 
-pub secondPasses-hold : every secondPasses ≡ true
-unfolding computed joined secondPasses
-secondPasses-hold = refl
+pub second_passes-hold : every second_passes ≡ true
+unfolding computed joined second_passes
+second_passes-hold = refl
 
 -- the answer counts every detected party, with a bilateral sale or without. One entry only: all 999 parties are gone through
-pub controlCounts : List Bool
-controlCounts =
+pub control_counts : List Bool
+control_counts =
     -- 999, by a day-ahead sale
-    countsAre (page (entry 999 5 1 0 0 101 ∷ []) 5) 5 (0 ∷ 1 ∷ 0 ∷ 0 ∷ [])
+    counts_are (page (entry 999 5 1 0 0 101 ∷ []) 5) 5 (0 ∷ 1 ∷ 0 ∷ 0 ∷ [])
     -- 999 in the second pass, though in the first too: 203 is above twice 101, and above twice nothing
-    ∷ eqb (controlAnswer (page (sale 1 5 999 101 ∷ entry 999 5 1 0 0 203 ∷ void 1 6 999 7 ∷ []) 5) 5).second 1
+    ∷ eqb (control_answer (page (sale 1 5 999 101 ∷ entry 999 5 1 0 0 203 ∷ void 1 6 999 7 ∷ []) 5) 5).second 1
     -- parties 1 and 999 of a test that holds of these two, and no party 1,000
-    ∷ eqb (detectedParties (λ p. eqb (p % 998) 1)) 2
-    ∷ eqb (detectedParties (λ p. eqb p 1000)) 0
+    ∷ eqb (detected_parties (λ p. eqb (p % 998) 1)) 2
+    ∷ eqb (detected_parties (λ p. eqb p 1000)) 0
     ∷ []
 
-pub controlCounts-hold : every controlCounts ≡ true
-unfolding computed joined controlCounts
-controlCounts-hold = refl
+pub control_counts-hold : every control_counts ≡ true
+unfolding computed joined control_counts
+control_counts-hold = refl
 
 -- the causes of a control, 1, 4, 8 and 9, in that order; on a refusal the counts are 0 and the words are as before
-abbrev refusedBy : ℕ → List ℕ → ℕ → Bool
-refusedBy cause ws d = countsAre ws d (cause ∷ 0 ∷ 0 ∷ 0 ∷ []) && same_numbers (controlWords ws d) ws
+abbrev refused_by : ℕ → List ℕ → ℕ → Bool
+refused_by cause ws d = counts_are ws d (cause ∷ 0 ∷ 0 ∷ 0 ∷ []) && same_numbers (control_words ws d) ws
 
-abbrev oneSale : List (List ℕ)
-oneSale = sale 1 5 2 101 ∷ []
+abbrev one_sale : List (List ℕ)
+one_sale = sale 1 5 2 101 ∷ []
 
 -- days 6 and 5 controlled in turn, in this order
-abbrev twoDays : List (List ℕ)
-twoDays = sale 1 6 2 101 ∷ sale 2 6 3 202 ∷ sale 1 5 2 101 ∷ sale 2 5 3 202 ∷ []
+abbrev two_days : List (List ℕ)
+two_days = sale 1 6 2 101 ∷ sale 2 6 3 202 ∷ sale 1 5 2 101 ∷ sale 2 5 3 202 ∷ []
 
 abbrev closed : List ℕ
 closed = page (void 1 5 2 101 ∷ sale 2 5 3 50 ∷ entry 1 5 1 0 0 7 ∷ sale 1 5 0 7 ∷ mark 5 ∷ []) 5
 
-pub controlCauses : List Bool
-controlCauses =
-    refusedBy 1 [] 5
-    ∷ refusedBy 1 (set (page oneSale 5) 1 0x700003E9) 5
-    ∷ refusedBy 1 (set (page oneSale 0) 1 0x700003E9) 36525
-    ∷ refusedBy 4 (page oneSale 5) 36525
-    ∷ refusedBy 4 (page oneSale 0) 36525
+pub control_causes : List Bool
+control_causes =
+    refused_by 1 [] 5
+    ∷ refused_by 1 (set (page one_sale 5) 1 0x700003E9) 5
+    ∷ refused_by 1 (set (page one_sale 0) 1 0x700003E9) 36525
+    ∷ refused_by 4 (page one_sale 5) 36525
+    ∷ refused_by 4 (page one_sale 0) 36525
     -- the last day of the table
-    ∷ same_numbers (controlWords (page oneSale 5) 36524) (page (sale 1 5 2 101 ∷ mark 36524 ∷ []) 0)
+    ∷ same_numbers (control_words (page one_sale 5) 36524) (page (sale 1 5 2 101 ∷ mark 36524 ∷ []) 0)
     -- a day with a mark, with room and without; a mark of another day closes that day alone
-    ∷ refusedBy 8 (page (sale 1 5 2 101 ∷ mark 5 ∷ []) 5) 5
-    ∷ refusedBy 8 (page (sale 1 5 2 101 ∷ mark 5 ∷ []) 0) 5
+    ∷ refused_by 8 (page (sale 1 5 2 101 ∷ mark 5 ∷ []) 5) 5
+    ∷ refused_by 8 (page (sale 1 5 2 101 ∷ mark 5 ∷ []) 0) 5
     ∷ leaves (sale 1 5 2 101 ∷ mark 6 ∷ []) (void 1 5 2 101 ∷ mark 6 ∷ []) 1
     -- the mark needs five words more
-    ∷ refusedBy 9 (page oneSale 0) 5
-    ∷ refusedBy 9 (page oneSale 4) 5
-    ∷ refusedBy 9 (page [] 4) 5
-    ∷ same_numbers (controlWords (page oneSale 5) 5) (page (void 1 5 2 101 ∷ mark 5 ∷ []) 0)
-    ∷ same_numbers (controlWords (page oneSale 7) 5) (page (void 1 5 2 101 ∷ mark 5 ∷ []) 2)
+    ∷ refused_by 9 (page one_sale 0) 5
+    ∷ refused_by 9 (page one_sale 4) 5
+    ∷ refused_by 9 (page [] 4) 5
+    ∷ same_numbers (control_words (page one_sale 5) 5) (page (void 1 5 2 101 ∷ mark 5 ∷ []) 0)
+    ∷ same_numbers (control_words (page one_sale 7) 5) (page (void 1 5 2 101 ∷ mark 5 ∷ []) 2)
     -- the words of a controlled book, one by one
     ∷ same_numbers
-    (controlWords (page oneSale 5) 5)
+    (control_words (page one_sale 5) 5)
     (0x60000002 ∷ 0x700000C8 ∷ 0x80000064 ∷ 0x10000001 ∷ 0x20000005 ∷ 0x32000206 ∷ 0x40000065 ∷ 0x50000000 ∷ 0x10000000 ∷ 0x20000005 ∷ 0x30000015 ∷ 0x40000000 ∷ 0x50000000 ∷ [])
     -- one sale cancelled in one month on two days, in either order: each control closes its day, the later one repeats the pair
     ∷ same_numbers
-    (controlWords (controlWords (page twoDays 10) 6) 5)
+    (control_words (control_words (page two_days 10) 6) 5)
     (page (void 1 6 2 101 ∷ sale 2 6 3 202 ∷ void 1 5 2 101 ∷ void 2 5 3 202 ∷ mark 6 ∷ mark 5 ∷ []) 0)
     ∷ same_numbers
-    (controlWords (controlWords (page twoDays 10) 5) 6)
+    (control_words (control_words (page two_days 10) 5) 6)
     (page (void 1 6 2 101 ∷ void 2 6 3 202 ∷ void 1 5 2 101 ∷ sale 2 5 3 202 ∷ mark 5 ∷ mark 6 ∷ []) 0)
-    ∷ refusedBy 8 (controlWords (controlWords (page twoDays 15) 6) 5) 6
+    ∷ refused_by 8 (control_words (control_words (page two_days 15) 6) 5) 6
     -- a closed day takes no bilateral sale and gives none back; exports, other types and other days go on
-    ∷ eqb (postCause closed (key_of 4 5 6 3) 1) 8
-    ∷ eqb (postCause closed (key_of 4 5 6 0) 1) 0
-    ∷ eqb (postCause closed (key_of 4 5 1 0) 1) 0
-    ∷ eqb (postCause closed (key_of 4 6 6 3) 1) 0
-    ∷ eqb (withdrawCause closed 0) 10
-    ∷ eqb (withdrawCause closed 1) 8
-    ∷ eqb (withdrawCause closed 2) 0
-    ∷ eqb (withdrawCause closed 3) 0
-    ∷ eqb (withdrawCause closed 4) 10
+    ∷ eqb (post_cause closed (key_of 4 5 6 3) 1) 8
+    ∷ eqb (post_cause closed (key_of 4 5 6 0) 1) 0
+    ∷ eqb (post_cause closed (key_of 4 5 1 0) 1) 0
+    ∷ eqb (post_cause closed (key_of 4 6 6 3) 1) 0
+    ∷ eqb (withdraw_cause closed 0) 10
+    ∷ eqb (withdraw_cause closed 1) 8
+    ∷ eqb (withdraw_cause closed 2) 0
+    ∷ eqb (withdraw_cause closed 3) 0
+    ∷ eqb (withdraw_cause closed 4) 10
     ∷ []
 
-pub controlCauses-hold : every controlCauses ≡ true
-unfolding computed joined controlCauses
-controlCauses-hold = refl
+pub control_causes-hold : every control_causes ≡ true
+unfolding computed joined control_causes
+control_causes-hold = refl

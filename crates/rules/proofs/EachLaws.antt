@@ -16,12 +16,12 @@ module _ {A : Type 0} (P : A → A → Type 0) where
   each-length (x ∷ xs) [] h = absurd h
   each-length (x ∷ xs) (y ∷ ys) h = ap suc (each-length xs ys h.1)
 
-  pub each-getD : (d : A) → P d d → (xs ys : List A) → Each P xs ys → (i : ℕ) → P (get_or xs i d) (get_or ys i d)
-  each-getD d p [] [] h i = p
-  each-getD d p [] (y ∷ ys) h i = absurd h
-  each-getD d p (x ∷ xs) [] h i = absurd h
-  each-getD d p (x ∷ xs) (y ∷ ys) h zero = h.0
-  each-getD d p (x ∷ xs) (y ∷ ys) h (suc i) = each-getD d p xs ys h.1 i
+  pub each-get_or : (d : A) → P d d → (xs ys : List A) → Each P xs ys → (i : ℕ) → P (get_or xs i d) (get_or ys i d)
+  each-get_or d p [] [] h i = p
+  each-get_or d p [] (y ∷ ys) h i = absurd h
+  each-get_or d p (x ∷ xs) [] h i = absurd h
+  each-get_or d p (x ∷ xs) (y ∷ ys) h zero = h.0
+  each-get_or d p (x ∷ xs) (y ∷ ys) h (suc i) = each-get_or d p xs ys h.1 i
 
   pub each_take : (k : ℕ) (xs ys : List A) → Each P xs ys → Each P (take k xs) (take k ys)
   each_take zero xs ys h = tt

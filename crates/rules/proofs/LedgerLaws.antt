@@ -12,16 +12,16 @@ use borrow.Author.Tests.{eqb-true, le-leb, lt-leb, lt-ltb, le-ltb, eq-eqb, ne_eq
 use Rattle.numbers.specs.Causes.{unless, or_else, first_of}
 use Rattle.numbers.proofs.TestLaws.{bool_cases, below-or-above, or_cases}
 use Rattle.numbers.proofs.CauseLaws.{else-none}
-use Rattle.rules.specs.Entry.{Key, Record, recordOf, key, noRecord, within, isVolume, isMoney, is_type, isStanding, withdrawn, counterpartyOk, amountLimit, fault}
-use Rattle.rules.specs.Words.{roomIn}
-use Rattle.rules.specs.Ledger.{post, withdraw, ledgerRoom, causeIf, outside, ledgerFault, standsAt, withdrawnAt, ledgerCause}
+use Rattle.rules.specs.Entry.{Key, Record, record_of, key, no_record, within, is_volume, is_money, is_type, is_standing, withdrawn, counterparty_ok, amount_limit, fault}
+use Rattle.rules.specs.Words.{room_in}
+use Rattle.rules.specs.Ledger.{post, withdraw, ledger_room, cause_if, outside, ledger_fault, stands_at, withdrawn_at, ledger_cause}
 use Rattle.rules.proofs.WordLaws.{within-true, volume-range}
 
-pub same-room : (lent : ℕ) → ledgerRoom lent ≡ roomIn lent
+pub same-room : (lent : ℕ) → ledger_room lent ≡ room_in lent
 same-room lent = min_comm _ _
 
 -- a fault is a test that fails
-fault-unless : (t : Bool) (n : ℕ) → causeIf (not t) n ≡ unless t n
+fault-unless : (t : Bool) (n : ℕ) → cause_if (not t) n ≡ unless t n
 fault-unless true n = refl
 fault-unless false n = refl
 
@@ -70,7 +70,7 @@ nonzero-not c =
 
 -- check 6, over its four tests: type 6; counterparty at most 999; the party; 0
 one-check : (six few own none : Bool) (later : ℕ) →
-    or_else (causeIf (not six && not none) 6) (or_else (causeIf (six && not few) 6) (or_else (causeIf (six && own) 6) later))
+    or_else (cause_if (not six && not none) 6) (or_else (cause_if (six && not few) 6) (or_else (cause_if (six && own) 6) later))
     ≡ or_else (unless (cond six (few && not own) none) 6) later
 one-check true true true none later = refl
 one-check true true false none later = refl
@@ -80,11 +80,11 @@ one-check false few own false later = refl
 
 -- check 7, of a type in range
 amount-causes : (t a : ℕ) → is_type t ≡ true →
-    first_of (causeIf ((leb t 16 || eqb t 22) && ltb 1000000000 a) 7 ∷ causeIf (leb 17 t && leb t 20 && ltb 10000000000000 a) 7 ∷ [])
-    ≡ first_of (unless (leb a (amountLimit t)) 7 ∷ [])
-unfolding amountLimit
+    first_of (cause_if ((leb t 16 || eqb t 22) && ltb 1000000000 a) 7 ∷ cause_if (leb 17 t && leb t 20 && ltb 10000000000000 a) 7 ∷ [])
+    ≡ first_of (unless (leb a (amount_limit t)) 7 ∷ [])
+unfolding amount_limit
 amount-causes t a e =
-    elim (or_cases (isVolume t) (isMoney t) e) [
+    elim (or_cases (is_volume t) (is_money t) e) [
       | inl v ↦
           elim (volume-range t v) [
             | inl h ↦ rw (le-leb t 16 h.1, lt-leb 17 t (omega arith), above-not 1000000000 a, fault-unless (leb a 1000000000) 7)
@@ -100,8 +100,8 @@ else-where : (t : Bool) (n x y : ℕ) → (t ≡ true → x ≡ y) → or_else (
 else-where true n x y h = h refl
 else-where false n x y h = refl
 
-pub same-fault : (k : Key) (a : ℕ) → ledgerFault k a ≡ fault k a
-unfolding ledgerFault fault counterpartyOk
+pub same-fault : (k : Key) (a : ℕ) → ledger_fault k a ≡ fault k a
+unfolding ledger_fault fault counterparty_ok
 same-fault k a =
     rw (
       outside-not _ _ k.party,
@@ -115,28 +115,28 @@ same-fault k a =
       one-check,
     )
     (ap (λ later. or_else (unless (within 1 999 k.party) 3) (or_else (unless (leb k.day 36524) 4) later))
-    (else-where (is_type k.type) 4 _ _ λ e. ap (or_else (unless (counterpartyOk k) 6)) (amount-causes k.type a e)))
+    (else-where (is_type k.type) 4 _ _ λ e. ap (or_else (unless (counterparty_ok k) 6)) (amount-causes k.type a e)))
 
-pub same-standing : (rs : List Record) (n : ℕ) → standsAt rs n ≡ ltb n (length rs) && isStanding (get_or rs n noRecord)
-unfolding standsAt
+pub same-standing : (rs : List Record) (n : ℕ) → stands_at rs n ≡ ltb n (length rs) && is_standing (get_or rs n no_record)
+unfolding stands_at
 same-standing [] n = rw (leb-suc-zero n)
 same-standing (r ∷ rs) zero = rw (lt-ltb 0 (suc (length rs)) (omega arith))
 same-standing (r ∷ rs) (suc n) = rw (leb-suc-suc (suc n) (length rs)) (same-standing rs n)
 
-pub same-withdrawal : (rs : List Record) (n : ℕ) → withdrawnAt rs n ≡ set rs n (recordOf (key (get_or rs n noRecord)) withdrawn (get_or rs n noRecord).amount)
-unfolding withdrawnAt
+pub same-withdrawal : (rs : List Record) (n : ℕ) → withdrawn_at rs n ≡ set rs n (record_of (key (get_or rs n no_record)) withdrawn (get_or rs n no_record).amount)
+unfolding withdrawn_at
 same-withdrawal [] n = refl
 same-withdrawal (r ∷ rs) zero = refl
 same-withdrawal (r ∷ rs) (suc n) = ap (λ ss. r ∷ ss) (same-withdrawal rs n)
 
 -- the causes of the ledger's two calls by the book's tests
 pub post-causes : (lent : ℕ) (rs : List Record) (k : Key) (a : ℕ) →
-    ledgerCause lent rs (post k a) ≡ first_of (fault k a ∷ unless (ltb (length rs) (roomIn lent)) 9 ∷ [])
-unfolding ledgerCause
+    ledger_cause lent rs (post k a) ≡ first_of (fault k a ∷ unless (ltb (length rs) (room_in lent)) 9 ∷ [])
+unfolding ledger_cause
 post-causes lent rs k a =
-    rw (same-room lent, same-fault k a, reached-not (length rs) (roomIn lent), fault-unless (ltb (length rs) (roomIn lent)) 9)
+    rw (same-room lent, same-fault k a, reached-not (length rs) (room_in lent), fault-unless (ltb (length rs) (room_in lent)) 9)
 
 pub withdraw-causes : (lent : ℕ) (rs : List Record) (n : ℕ) →
-    ledgerCause lent rs (withdraw n) ≡ first_of (unless (ltb n (length rs) && isStanding (get_or rs n noRecord)) 10 ∷ [])
-unfolding ledgerCause
-withdraw-causes lent rs n = rw (same-standing rs n, else-none) (fault-unless (ltb n (length rs) && isStanding (get_or rs n noRecord)) 10)
+    ledger_cause lent rs (withdraw n) ≡ first_of (unless (ltb n (length rs) && is_standing (get_or rs n no_record)) 10 ∷ [])
+unfolding ledger_cause
+withdraw-causes lent rs n = rw (same-standing rs n, else-none) (fault-unless (ltb n (length rs) && is_standing (get_or rs n no_record)) 10)

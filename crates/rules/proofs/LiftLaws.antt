@@ -11,31 +11,31 @@ use lib.ListN.{length, get_or, take, drop, length-take, take-append-drop}
 use lib.Seq.{get_or-take, drop-append-le}
 use borrow.Author.Tests.{leb-true, leb-false, le-leb, lt-leb}
 use Rattle.numbers.specs.Tests.{all, every}
-use Rattle.numbers.specs.Causes.{unless, or_else, ifDone}
+use Rattle.numbers.specs.Causes.{unless, or_else, if_done}
 use Rattle.numbers.proofs.TestLaws.{bool_cases, below-or-above}
 use Rattle.numbers.proofs.CauseLaws.{unless-zero, else-split, done-else, done-zero}
 use Rattle.rules.specs.Entry.{Record, legal}
-use Rattle.rules.specs.Words.{Frame, frame_of, kind_at, isBook, entries, entriesOk, countOf, coefficientOf, toleranceOf, roomIn, usedWords, laid}
-use Rattle.rules.specs.Machine.{Machine, leavesOf, figuresOf}
+use Rattle.rules.specs.Words.{Frame, frame_of, kind_at, is_book, entries, entries_ok, count_of, coefficient_of, tolerance_of, room_in, used_words, laid}
+use Rattle.rules.specs.Machine.{Machine, leaves_of, figures_of}
 use Rattle.rules.specs.Calls.{lifted}
-use Rattle.rules.proofs.WordLaws.{Fits, laid-book, room-words, book-facts, Agree, agree-drop, read-agree, entries-ok-agree}
+use Rattle.rules.proofs.WordLaws.{Fits, laid-book, room-words, book-facts, Agree, agree-drop, read-agree, entries_ok-agree}
 use Rattle.rules.proofs.BookLaws.{Stays, laid-stays}
 
 -- a refused call leaves the state as it was
-pub refused-leaves : {S C F : Type 0} (m : Machine S C F) (s : S) (c : C) → m.cause s c ≢ 0 → leavesOf m s c ≡ s
-unfolding leavesOf
+pub refused-leaves : {S C F : Type 0} (m : Machine S C F) (s : S) (c : C) → m.cause s c ≢ 0 → leaves_of m s c ≡ s
+unfolding leaves_of
 refused-leaves m s c h = done-else _ _ _ h
 
-pub done-leaves : {S C F : Type 0} (m : Machine S C F) (s : S) (c : C) → m.cause s c ≡ 0 → leavesOf m s c ≡ m.done s c
-unfolding leavesOf
+pub done-leaves : {S C F : Type 0} (m : Machine S C F) (s : S) (c : C) → m.cause s c ≡ 0 → leaves_of m s c ≡ m.done s c
+unfolding leaves_of
 done-leaves m s c e = done-zero _ _ _ e
 
 -- what calls see of a book's words beside the room: whether they are a book, R, TM and the records
 pub record SameView (ws vs : List ℕ) : Type 0 where
-  pub is-book : isBook ws ≡ isBook vs
-  pub coefficient : isBook vs ≡ true → coefficientOf ws ≡ coefficientOf vs
-  pub tolerance : isBook vs ≡ true → toleranceOf ws ≡ toleranceOf vs
-  pub holds : isBook vs ≡ true → entries ws ≡ entries vs
+  pub is-book : is_book ws ≡ is_book vs
+  pub coefficient : is_book vs ≡ true → coefficient_of ws ≡ coefficient_of vs
+  pub tolerance : is_book vs ≡ true → tolerance_of ws ≡ tolerance_of vs
+  pub holds : is_book vs ≡ true → entries ws ≡ entries vs
 
 -- words cut at any length with room for the entries have the same view
 guarded : (p g h x y : Bool) → g ≡ h → (h ≡ true → x ≡ y) → p && g && x ≡ p && h && y
@@ -46,22 +46,22 @@ guarded true false false x y e h = refl
 guarded false g k x y e h = refl
 
 -- a cut has room for what the slice and the cut's length have room for, both
-room-both : (k a b : ℕ) → k ≤ roomIn a → k ≤ roomIn b → k ≤ roomIn (min a b)
+room-both : (k a b : ℕ) → k ≤ room_in a → k ≤ room_in b → k ≤ room_in (min a b)
 room-both k a b h l =
     elim (below-or-above a b) [
       | inl p ↦ let e : min a b ≡ a = omega arith in rw e h
       | inr p ↦ let e : min a b ≡ b = omega arith in rw e l
     ]
 
-room-grows : (a b : ℕ) → a ≤ b → roomIn a ≤ roomIn b
+room-grows : (a b : ℕ) → a ≤ b → room_in a ≤ room_in b
 room-grows a b h = omega arith
 
 -- and no more room than the slice: what fits the cut's length fits the cut and the slice alike
-pub room-alike : (k a b : ℕ) → (k ≤ roomIn b → k ≤ roomIn a) → leb k (roomIn (min a b)) ≡ leb k (roomIn b)
+pub room-alike : (k a b : ℕ) → (k ≤ room_in b → k ≤ room_in a) → leb k (room_in (min a b)) ≡ leb k (room_in b)
 room-alike k a b h =
-    elim (bool_cases (leb k (roomIn b))) [
-      | inl e ↦ let l = leb-true k (roomIn b) e in rw e (le-leb k (roomIn (min a b)) (room-both k a b (h l) l))
-      | inr e ↦ let g = room-grows (min a b) b (min-le_right a b) in rw e (lt-leb k (roomIn (min a b)) (omega (arith, leb-false k (roomIn b) e)))
+    elim (bool_cases (leb k (room_in b))) [
+      | inl e ↦ let l = leb-true k (room_in b) e in rw e (le-leb k (room_in (min a b)) (room-both k a b (h l) l))
+      | inr e ↦ let g = room-grows (min a b) b (min-le_right a b) in rw e (lt-leb k (room_in (min a b)) (omega (arith, leb-false k (room_in b) e)))
     ]
 
 pub cut-long : (m : ℕ) → 3 ≤ m → (ws : List ℕ) → leb 3 (length (take m ws)) ≡ leb 3 (length ws)
@@ -71,39 +71,39 @@ cut-long m head ws =
       | inr e ↦ rw (e, length-take m ws) (lt-leb 3 (min m (length ws)) (omega (arith, leb-false 3 (length ws) e)))
     ]
 
-module _ (m : ℕ) (head : 3 ≤ m) (ws : List ℕ) (held : countOf ws ≤ roomIn (length ws) → countOf ws ≤ roomIn m) where
+module _ (m : ℕ) (head : 3 ≤ m) (ws : List ℕ) (held : count_of ws ≤ room_in (length ws) → count_of ws ≤ room_in m) where
   cut-agree : Agree m (take m ws) ws
   cut-agree i h = get_or-take m ws i 0 h
 
-  cut-room : leb (countOf ws) (roomIn (length (take m ws))) ≡ leb (countOf ws) (roomIn (length ws))
-  cut-room = rw (length-take m ws) (room-alike (countOf ws) m (length ws) held)
+  cut-room : leb (count_of ws) (room_in (length (take m ws))) ≡ leb (count_of ws) (room_in (length ws))
+  cut-room = rw (length-take m ws) (room-alike (count_of ws) m (length ws) held)
 
-  cut-past : countOf ws ≤ roomIn (length ws) → Agree (5 * countOf ws) (drop 3 (take m ws)) (drop 3 ws)
+  cut-past : count_of ws ≤ room_in (length ws) → Agree (5 * count_of ws) (drop 3 (take m ws)) (drop 3 ws)
   cut-past l =
       let k = held l in
-      agree-drop 3 (5 * countOf ws) (take m ws) ws (λ i h. cut-agree i (omega arith))
+      agree-drop 3 (5 * count_of ws) (take m ws) ws (λ i h. cut-agree i (omega arith))
 
-  cut-is-book : isBook (take m ws) ≡ isBook ws
-  unfolding isBook
-  cut-is-book =
+  cut-is_book : is_book (take m ws) ≡ is_book ws
+  unfolding is_book
+  cut-is_book =
       rw (cut-long m head ws, cut-agree 0 (omega arith), cut-agree 1 (omega arith), cut-agree 2 (omega arith))
       (guarded
-      (every (leb 3 (length ws) ∷ kind_at ws 0 6 ∷ kind_at ws 1 7 ∷ kind_at ws 2 8 ∷ leb (coefficientOf ws) 1000 ∷ leb (toleranceOf ws) 200000000 ∷ []))
-      (leb (countOf ws) (roomIn (length (take m ws))))
-      (leb (countOf ws) (roomIn (length ws)))
-      (entriesOk (countOf ws) (drop 3 (take m ws)))
-      (entriesOk (countOf ws) (drop 3 ws))
+      (every (leb 3 (length ws) ∷ kind_at ws 0 6 ∷ kind_at ws 1 7 ∷ kind_at ws 2 8 ∷ leb (coefficient_of ws) 1000 ∷ leb (tolerance_of ws) 200000000 ∷ []))
+      (leb (count_of ws) (room_in (length (take m ws))))
+      (leb (count_of ws) (room_in (length ws)))
+      (entries_ok (count_of ws) (drop 3 (take m ws)))
+      (entries_ok (count_of ws) (drop 3 ws))
       cut-room
-      (λ e. entries-ok-agree (countOf ws) (drop 3 (take m ws)) (drop 3 ws) (cut-past (leb-true (countOf ws) (roomIn (length ws)) e))))
+      (λ e. entries_ok-agree (count_of ws) (drop 3 (take m ws)) (drop 3 ws) (cut-past (leb-true (count_of ws) (room_in (length ws)) e))))
 
   pub cut-view : SameView (take m ws) ws
   unfolding entries
   cut-view =
       record {
-        is-book = cut-is-book;
+        is-book = cut-is_book;
         coefficient = λ b. rw (cut-agree 1 (omega arith));
         tolerance = λ b. rw (cut-agree 2 (omega arith));
-        holds = λ b. rw (cut-agree 0 (omega arith)) (read-agree (countOf ws) (drop 3 (take m ws)) (drop 3 ws) (cut-past (book-facts ws b).room));
+        holds = λ b. rw (cut-agree 0 (omega arith)) (read-agree (count_of ws) (drop 3 (take m ws)) (drop 3 ws) (cut-past (book-facts ws b).room));
       }
 
 -- records laid over the words, before and after the cut
@@ -111,7 +111,7 @@ cut-laid : (m : ℕ) (ws : List ℕ) (R TM : ℕ) (rs : List Record) → 3 + 5 *
 unfolding laid
 cut-laid m ws R TM rs l =
     let n = 3 + 5 * length rs in
-    ap (λ x. usedWords R TM rs ++ drop n x) (sym (take-append-drop m ws))
+    ap (λ x. used_words R TM rs ++ drop n x) (sym (take-append-drop m ws))
     ∙ rw (drop-append-le n (take m ws) (drop m ws) l, append_assoc)
 
 -- the frame of these figures
@@ -139,38 +139,38 @@ module _ {C F : Type 0} (on : Frame → Machine (List Record) C F) where
   -- and on two slices of the same view
   pub record SameFor (c : C) (ws vs : List ℕ) : Type 0 where
     pub view : SameView ws vs
-    pub same : isBook vs ≡ true → SameOn (frame_of ws) (frame_of vs) (entries vs) c
+    pub same : is_book vs ≡ true → SameOn (frame_of ws) (frame_of vs) (entries vs) c
 
   -- the records of a done call on words
   abbrev pub left : List ℕ → C → List Record
   left ws c = (on (frame_of ws)).done (entries ws) c
 
   pub record Passes (ws : List ℕ) (c : C) : Type 0 where
-    pub is-book : isBook ws ≡ true
+    pub is-book : is_book ws ≡ true
     pub clear : (on (frame_of ws)).cause (entries ws) c ≡ 0
 
   pub passes : (ws : List ℕ) (c : C) → (lifted on).cause ws c ≡ 0 → Passes ws c
   passes ws c e =
-      let s = else-split (unless (isBook ws) 1) ((on (frame_of ws)).cause (entries ws) c) e in
+      let s = else-split (unless (is_book ws) 1) ((on (frame_of ws)).cause (entries ws) c) e in
       record { is-book = unless-zero _ 0 s.0; clear = s.1 }
 
   -- only the view counts, and the room for what a call adds
   same-frame : {f g : Frame} → f ≡ g → (rs : List Record) (c : C) → SameOn f g rs c
   same-frame e rs c = record { cause = ap (λ f. (on f).cause rs c) e; figures = ap (λ f. (on f).figures rs c) e; done = ap (λ f. (on f).done rs c) e }
 
-  framed-as : {ws vs : List ℕ} → SameView ws vs → isBook vs ≡ true → frame_of ws ≡ framed (coefficientOf vs) (toleranceOf vs) (roomIn (length ws))
+  framed-as : {ws vs : List ℕ} → SameView ws vs → is_book vs ≡ true → frame_of ws ≡ framed (coefficient_of vs) (tolerance_of vs) (room_in (length ws))
   framed-as s b = rw (s.coefficient b, s.tolerance b)
 
-  pub with-room : {adds : C → ℕ} → Roomy on adds → {ws vs : List ℕ} → SameView ws vs → (c : C) → leb (countOf vs + adds c) (roomIn (length ws)) ≡ leb (countOf vs + adds c) (roomIn (length vs)) → SameFor c ws vs
+  pub with-room : {adds : C → ℕ} → Roomy on adds → {ws vs : List ℕ} → SameView ws vs → (c : C) → leb (count_of vs + adds c) (room_in (length ws)) ≡ leb (count_of vs + adds c) (room_in (length vs)) → SameFor c ws vs
   with-room {adds} r {ws} {vs} s c h = record { view = s; same = at }
     where
-      at : isBook vs ≡ true → SameOn (frame_of ws) (frame_of vs) (entries vs) c
+      at : is_book vs ≡ true → SameOn (frame_of ws) (frame_of vs) (entries vs) c
       at b =
-          let R = coefficientOf vs in
-          let TM = toleranceOf vs in
-          let n = roomIn (length ws) in
-          let m = roomIn (length vs) in
-          let l : length (entries vs) ≡ countOf vs = (book-facts vs b).count in
+          let R = coefficient_of vs in
+          let TM = tolerance_of vs in
+          let n = room_in (length ws) in
+          let m = room_in (length vs) in
+          let l : length (entries vs) ≡ count_of vs = (book-facts vs b).count in
           let o = same-frame (framed-as s b) (entries vs) c in
           record {
             cause = o.cause ∙ r.cause R TM n m (entries vs) c (rw l h);
@@ -180,23 +180,23 @@ module _ {C F : Type 0} (on : Frame → Machine (List Record) C F) where
 
   pub same-cause : {ws vs : List ℕ} {c : C} → SameFor c ws vs → (lifted on).cause ws c ≡ (lifted on).cause vs c
   same-cause {ws} {vs} {c} s =
-      elim (bool_cases (isBook vs)) [
+      elim (bool_cases (is_book vs)) [
         | inl b ↦ rw (s.view.is-book, b) (ap (λ rs. (on (frame_of ws)).cause rs c) (s.view.holds b) ∙ (s.same b).cause)
         | inr b ↦ rw (s.view.is-book, b)
       ]
 
-  pub same-figures : {ws vs : List ℕ} {c : C} → SameFor c ws vs → (none : F) → figuresOf none (lifted on) ws c ≡ figuresOf none (lifted on) vs c
-  unfolding figuresOf
+  pub same-figures : {ws vs : List ℕ} {c : C} → SameFor c ws vs → (none : F) → figures_of none (lifted on) ws c ≡ figures_of none (lifted on) vs c
+  unfolding figures_of
   same-figures {ws} {vs} {c} s none = go ((lifted on).cause vs c) refl
     where
-      go : (k : ℕ) → (lifted on).cause vs c ≡ k → figuresOf none (lifted on) ws c ≡ figuresOf none (lifted on) vs c
+      go : (k : ℕ) → (lifted on).cause vs c ≡ k → figures_of none (lifted on) ws c ≡ figures_of none (lifted on) vs c
       go zero e =
           let b = (passes vs c e).is-book in
           rw (same-cause s, e) (ap (λ rs. (on (frame_of ws)).figures rs c) (s.view.holds b) ∙ (s.same b).figures)
       go (suc k) e = rw (same-cause s, e)
 
   module _ (keeps : Keeps on) where
-    pub left-fits : (ws : List ℕ) (c : C) → (lifted on).cause ws c ≡ 0 → Fits (coefficientOf ws) (toleranceOf ws) (left ws c) ws
+    pub left-fits : (ws : List ℕ) (c : C) → (lifted on).cause ws c ≡ 0 → Fits (coefficient_of ws) (tolerance_of ws) (left ws c) ws
     left-fits ws c e =
         let p = passes ws c e in
         let f = book-facts ws p.is-book in
@@ -209,15 +209,15 @@ module _ {C F : Type 0} (on : Frame → Machine (List Record) C F) where
         }
 
     -- a done call leaves a book of its records, with R, TM, the length and the words past them
-    pub lifted-stays : (ws : List ℕ) (c : C) → (lifted on).cause ws c ≡ 0 → Stays ws (leavesOf (lifted on) ws c) (left ws c) (length (left ws c))
+    pub lifted-stays : (ws : List ℕ) (c : C) → (lifted on).cause ws c ≡ 0 → Stays ws (leaves_of (lifted on) ws c) (left ws c) (length (left ws c))
     lifted-stays ws c e = laid-stays (left-fits ws c e) (done-leaves (lifted on) ws c e) refl
 
     -- a call on cut words leaves the same, and the words past the cut as they were
-    pub cut-leaves : (m : ℕ) (ws : List ℕ) (c : C) → SameFor c (take m ws) ws → leavesOf (lifted on) ws c ≡ leavesOf (lifted on) (take m ws) c ++ drop m ws
-    unfolding leavesOf
+    pub cut-leaves : (m : ℕ) (ws : List ℕ) (c : C) → SameFor c (take m ws) ws → leaves_of (lifted on) ws c ≡ leaves_of (lifted on) (take m ws) c ++ drop m ws
+    unfolding leaves_of
     cut-leaves m ws c s = go ((lifted on).cause ws c) refl
       where
-        go : (k : ℕ) → (lifted on).cause ws c ≡ k → leavesOf (lifted on) ws c ≡ leavesOf (lifted on) (take m ws) c ++ drop m ws
+        go : (k : ℕ) → (lifted on).cause ws c ≡ k → leaves_of (lifted on) ws c ≡ leaves_of (lifted on) (take m ws) c ++ drop m ws
         go zero e =
             let us = take m ws in
             let b = (passes ws c e).is-book in
@@ -226,6 +226,6 @@ module _ {C F : Type 0} (on : Frame → Machine (List Record) C F) where
             let same : left us c ≡ left ws c = ap (λ rs. (on (frame_of us)).done rs c) (s.view.holds b) ∙ (s.same b).done in
             rw (same-cause s, e)
             (ap₂ (λ R TM. laid R TM (left ws c) ws) (sym (s.view.coefficient b)) (sym (s.view.tolerance b))
-            ∙ ap (λ rs. laid (coefficientOf us) (toleranceOf us) rs ws) (sym same)
-            ∙ cut-laid m ws (coefficientOf us) (toleranceOf us) (left us c) l)
+            ∙ ap (λ rs. laid (coefficient_of us) (tolerance_of us) rs ws) (sym same)
+            ∙ cut-laid m ws (coefficient_of us) (tolerance_of us) (left us c) l)
         go (suc k) e = rw (same-cause s, e) (sym (take-append-drop m ws))

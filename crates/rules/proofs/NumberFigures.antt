@@ -6,11 +6,11 @@ use mathlib.Core.Path.{◌≡◌, refl}
 use Prim.Native.Nat.{ℕ, ◌+◌, ◌*◌}
 use lib.Dec.{eqb, leb, ltb}
 use lib.IntN.{ℤ, pos}
-use Rattle.numbers.specs.Sums.{sum, total, count, countBelow}
+use Rattle.numbers.specs.Sums.{sum, total, count, count_below}
 use Rattle.numbers.specs.Tests.{every, all, any, all_below}
-use Rattle.numbers.specs.Causes.{unless, or_else, first_of, ifDone}
-use Rattle.numbers.specs.Rounding.{halfUp, round_up}
-use Rattle.numbers.specs.Signed.{isPositive, isNegative, lower, sumℤ}
+use Rattle.numbers.specs.Causes.{unless, or_else, first_of, if_done}
+use Rattle.numbers.specs.Rounding.{half_up, round_up}
+use Rattle.numbers.specs.Signed.{is_positive, is_negative, lower, sum_ℤ}
 use Rattle.rules.proofs.Worked.{minus, is_signed, same_numbers, computed}
 
 -- `every` tells a list with one failed test, first, between or last; the lists of figures rest on it, so it is shown without it
@@ -26,19 +26,19 @@ pub tests-told :
     ≡ (true ∷ true ∷ false ∷ true ∷ false ∷ false ∷ false ∷ [])
 tests-told = refl
 
-pub numberFigures : List Bool
-numberFigures =
+pub number_figures : List Bool
+number_figures =
     -- halves up: 4/10 and 1/3 go down, 5/10, 1/2, 3/2 and 2/3 go up, whole quotients stay; 0 where the divisor is 0
-    eqb (halfUp 4 10) 0
-    ∷ eqb (halfUp 5 10) 1
-    ∷ eqb (halfUp 6 10) 1
-    ∷ eqb (halfUp 1 3) 0
-    ∷ eqb (halfUp 2 3) 1
-    ∷ eqb (halfUp 1 2) 1
-    ∷ eqb (halfUp 3 2) 2
-    ∷ eqb (halfUp 20 10) 2
-    ∷ eqb (halfUp 0 7) 0
-    ∷ eqb (halfUp 7 0) 0
+    eqb (half_up 4 10) 0
+    ∷ eqb (half_up 5 10) 1
+    ∷ eqb (half_up 6 10) 1
+    ∷ eqb (half_up 1 3) 0
+    ∷ eqb (half_up 2 3) 1
+    ∷ eqb (half_up 1 2) 1
+    ∷ eqb (half_up 3 2) 2
+    ∷ eqb (half_up 20 10) 2
+    ∷ eqb (half_up 0 7) 0
+    ∷ eqb (half_up 7 0) 0
     -- up: 1/5 and 4/5 are 1, 5/5 is 1, 6/5 is 2
     ∷ eqb (round_up 0 5) 0
     ∷ eqb (round_up 1 5) 1
@@ -54,7 +54,7 @@ numberFigures =
     ∷ eqb (total (λ k. k * k + 1) (2 ∷ 0 ∷ 2 ∷ [])) 11
     ∷ eqb (total (λ (k : ℕ). k) []) 0
     -- below 5, the numbers 2, 3 and 4 are above 1; of 0, 2, 1, 2 and 2 three are
-    ∷ eqb (countBelow 5 (ltb 1)) 3
+    ∷ eqb (count_below 5 (ltb 1)) 3
     ∷ eqb (count (ltb 1) (0 ∷ 2 ∷ 1 ∷ 2 ∷ 2 ∷ [])) 3
     -- one member that fails, first or last; one that passes, first or last; an empty list
     ∷ all (ltb 1) (2 ∷ 3 ∷ [])
@@ -79,27 +79,27 @@ numberFigures =
     ∷ eqb (first_of (0 ∷ 3 ∷ 2 ∷ [])) 3
     ∷ eqb (first_of (2 ∷ 3 ∷ 0 ∷ [])) 2
     ∷ eqb (first_of (0 ∷ 0 ∷ 7 ∷ [])) 7
-    ∷ eqb (ifDone 0 8 9) 8
-    ∷ eqb (ifDone 1 8 9) 9
-    ∷ eqb (ifDone 12 8 9) 9
+    ∷ eqb (if_done 0 8 9) 8
+    ∷ eqb (if_done 1 8 9) 9
+    ∷ eqb (if_done 12 8 9) 9
     -- zero is neither above nor below zero
-    ∷ isPositive (pos 1)
-    ∷ not (isPositive (pos 0))
-    ∷ not (isPositive (minus 1))
-    ∷ isNegative (minus 1)
-    ∷ not (isNegative (pos 0))
-    ∷ not (isNegative (pos 1))
+    ∷ is_positive (pos 1)
+    ∷ not (is_positive (pos 0))
+    ∷ not (is_positive (minus 1))
+    ∷ is_negative (minus 1)
+    ∷ not (is_negative (pos 0))
+    ∷ not (is_negative (pos 1))
     -- the lower of two, either way round and across zero
     ∷ is_signed (lower (minus 2) (pos 3)) (minus 2)
     ∷ is_signed (lower (pos 3) (minus 2)) (minus 2)
     ∷ is_signed (lower (minus 2) (minus 5)) (minus 5)
     ∷ is_signed (lower (pos 2) (pos 5)) (pos 2)
     -- -1 - 2; 0 + 1 + 4; none of none
-    ∷ is_signed (sumℤ 2 (λ k. minus (k + 1))) (minus 3)
-    ∷ is_signed (sumℤ 3 (λ k. pos (k * k))) (pos 5)
-    ∷ is_signed (sumℤ 0 (λ k. pos 1)) (pos 0)
+    ∷ is_signed (sum_ℤ 2 (λ k. minus (k + 1))) (minus 3)
+    ∷ is_signed (sum_ℤ 3 (λ k. pos (k * k))) (pos 5)
+    ∷ is_signed (sum_ℤ 0 (λ k. pos 1)) (pos 0)
     ∷ []
 
-pub numberFigures-hold : every numberFigures ≡ true
-unfolding computed numberFigures all_below
-numberFigures-hold = refl
+pub number_figures-hold : every number_figures ≡ true
+unfolding computed number_figures all_below
+number_figures-hold = refl

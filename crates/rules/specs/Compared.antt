@@ -1,8 +1,8 @@
 -- What the order of two books compares (01, 'Demand 3 and its ledger'), as propositions apart from the tests of the other files.
 use Rattle.std.specs.Prelude.{◌⊎◌, ◌↔◌, ◌≡◌, List, [], ◌∷◌, ℕ, zero, suc, ◌+◌, ◌≤◌, nat_abs}
 use Rattle.rules.specs.Entry.{Key, Record, key}
-use Rattle.rules.specs.Month.{Tables, tables_of, monthAnswer}
-use Rattle.case_figures.specs.CaseFigures.{withMonths}
+use Rattle.rules.specs.Month.{Tables, tables_of, month_answer}
+use Rattle.case_figures.specs.CaseFigures.{with_months}
 use Rattle.rules.specs.Ledger.{Call, post}
 use Rattle.case_figures.specs.declared.Month.{Month}
 use Rattle.case_figures.specs.declared.Case.{Case}
@@ -78,13 +78,13 @@ pub record Cheaper (m n : Month) : Type 0 where
   pub tables : Tables
   pub prices : List ℕ
   pub lower : Each (λ x y. y ≤ x) tables.prices prices
-  pub first : monthAnswer tables ≡ record { answer = 0; month = m }
-  pub second : monthAnswer (tables_of prices tables.imbalance tables.rows tables.dm tables.group) ≡ record { answer = 0; month = n }
+  pub first : month_answer tables ≡ record { answer = 0; month = m }
+  pub second : month_answer (tables_of prices tables.imbalance tables.rows tables.dm tables.group) ≡ record { answer = 0; month = n }
 
 -- cases equal save that month answers come from tables with prices no higher
 abbrev pub LowerCase : Case → Case → Type 0
 LowerCase b c =
-    (b ≡ withMonths c b.group.months) × Each (λ m n. (m ≡ n) ⊎ Cheaper m n) b.group.months c.group.months
+    (b ≡ with_months c b.group.months) × Each (λ m n. (m ≡ n) ⊎ Cheaper m n) b.group.months c.group.months
 
 -- what may be asked of a book (01, 'Why a call comes back'): a party of 1 to 999 and a day of at most 36,524
 abbrev pub IsParty : ℕ → Type 0
@@ -95,9 +95,9 @@ IsDay d = d ≤ 36524
 
 -- the answer of a call for a party and a day: 0, or the lowest cause
 pub data AskedAnswer (p d : ℕ) : ℕ → Type 0 where
-  askedDone : IsParty p → IsDay d → AskedAnswer p d 0
-  noParty : ¬ IsParty p → AskedAnswer p d 3
-  noDay : IsParty p → ¬ IsDay d → AskedAnswer p d 4
+  asked_done : IsParty p → IsDay d → AskedAnswer p d 0
+  no_party : ¬ IsParty p → AskedAnswer p d 3
+  no_day : IsParty p → ¬ IsDay d → AskedAnswer p d 4
 
 -- the figures of a case in their ranges, month answers only if used (01, 'Collateral')
 abbrev pub UsedInRange : ℕ → List Month → Type 0
@@ -122,6 +122,6 @@ pub record IsCase (c : Case) : Type 0 where
 
 -- the answer of a call for a case: that for its party and day, else 12 if another figure is out of its range
 pub data CaseAnswer (c : Case) : ℕ → Type 0 where
-  caseDone : AskedAnswer c.asked.party c.asked.day 0 → IsCase c → CaseAnswer c 0
-  notAsked : {k : ℕ} → AskedAnswer c.asked.party c.asked.day (suc k) → CaseAnswer c (suc k)
-  noFigure : AskedAnswer c.asked.party c.asked.day 0 → ¬ IsCase c → CaseAnswer c 12
+  case_done : AskedAnswer c.asked.party c.asked.day 0 → IsCase c → CaseAnswer c 0
+  not_asked : {k : ℕ} → AskedAnswer c.asked.party c.asked.day (suc k) → CaseAnswer c (suc k)
+  no_figure : AskedAnswer c.asked.party c.asked.day 0 → ¬ IsCase c → CaseAnswer c 12

@@ -2,25 +2,25 @@
 use Rattle.std.specs.Prelude.{Bool, ◌&&◌, List, [], ◌∷◌, ℕ, ◌+◌, ◌*◌, eqb, leb, ltb, ℤ, pos, nat_abs, ◌-ℤ◌, length, get_or}
 use Rattle.numbers.specs.Sums.{sum}
 use Rattle.numbers.specs.Tests.{every, all}
-use Rattle.numbers.specs.Causes.{unless, first_of, ifDone}
-use Rattle.numbers.specs.Rounding.{halfUp}
-use Rattle.numbers.specs.Signed.{sumℤ}
-use Rattle.rules.specs.Refusals.{badLength, badFigure}
+use Rattle.numbers.specs.Causes.{unless, first_of, if_done}
+use Rattle.numbers.specs.Rounding.{half_up}
+use Rattle.numbers.specs.Signed.{sum_ℤ}
+use Rattle.rules.specs.Refusals.{bad_length, bad_figure}
 use Rattle.rules.specs.Entry.{within}
 use Rattle.case_figures.specs.declared.Month.{Month}
 use Rattle.rules.specs.declared.MonthAnswer.{MonthAnswer}
 
-abbrev pub mostHours : ℕ
-mostHours = 745
+abbrev pub most_hours : ℕ
+most_hours = 745
 
-abbrev pub mostRows : ℕ
-mostRows = 64
+abbrev pub most_rows : ℕ
+most_rows = 64
 
-abbrev pub mostPrice : ℕ
-mostPrice = 1000000
+abbrev pub most_price : ℕ
+most_price = 1000000
 
-abbrev pub mostImbalance : ℕ
-mostImbalance = 10000000
+abbrev pub most_imbalance : ℕ
+most_imbalance = 10000000
 
 -- the tables of a month: an hourly price; rows × hours imbalances, a row a group; an hourly DM; the group asked
 pub record Tables : Type 0 where
@@ -37,54 +37,54 @@ tables_of prices imbalance rows dm group =
 abbrev pub hours : Tables → ℕ
 hours m = length m.prices
 
-abbrev pub volumeOk : ℤ → Bool
-volumeOk z = leb (nat_abs z) mostImbalance
+abbrev pub volume_ok : ℤ → Bool
+volume_ok z = leb (nat_abs z) most_imbalance
 
-unfoldable pub monthCause : Tables → ℕ
-monthCause m =
+unfoldable pub month_cause : Tables → ℕ
+month_cause m =
     first_of
-    (unless (every (leb (hours m) mostHours ∷ eqb (length m.imbalance) (m.rows * hours m) ∷ eqb (length m.dm) (hours m) ∷ [])) badLength
+    (unless (every (leb (hours m) most_hours ∷ eqb (length m.imbalance) (m.rows * hours m) ∷ eqb (length m.dm) (hours m) ∷ [])) bad_length
     ∷ unless
     (every
-    (within 1 mostRows m.rows
+    (within 1 most_rows m.rows
     ∷ ltb m.group m.rows
-    ∷ all (λ price. leb price mostPrice) m.prices
-    ∷ all volumeOk m.imbalance
-    ∷ all volumeOk m.dm
+    ∷ all (λ price. leb price most_price) m.prices
+    ∷ all volume_ok m.imbalance
+    ∷ all volume_ok m.dm
     ∷ []))
-    badFigure
+    bad_figure
     ∷ [])
 
 -- the figures of an hour
-abbrev pub priceAt : Tables → ℕ → ℕ
-priceAt m h = get_or m.prices h 0
+abbrev pub price_at : Tables → ℕ → ℕ
+price_at m h = get_or m.prices h 0
 
-abbrev pub imbalanceAt : Tables → ℕ → ℕ → ℤ
-imbalanceAt m row h = get_or m.imbalance (row * hours m + h) (pos 0)
+abbrev pub imbalance_at : Tables → ℕ → ℕ → ℤ
+imbalance_at m row h = get_or m.imbalance (row * hours m + h) (pos 0)
 
-abbrev pub dmAt : Tables → ℕ → ℤ
-dmAt m h = get_or m.dm h (pos 0)
+abbrev pub dm_at : Tables → ℕ → ℤ
+dm_at m h = get_or m.dm h (pos 0)
 
 -- AOSMF: Σ|imbalance| × price over all rows, divided by Σ|imbalance|, halves up; 0 where the divisor is 0
-unfoldable pub weightedPrices : Tables → ℕ
-weightedPrices m = sum m.rows (λ row. sum (hours m) (λ h. nat_abs (imbalanceAt m row h) * priceAt m h))
+unfoldable pub weighted_prices : Tables → ℕ
+weighted_prices m = sum m.rows (λ row. sum (hours m) (λ h. nat_abs (imbalance_at m row h) * price_at m h))
 
 unfoldable pub weights : Tables → ℕ
-weights m = sum m.rows (λ row. sum (hours m) (λ h. nat_abs (imbalanceAt m row h)))
+weights m = sum m.rows (λ row. sum (hours m) (λ h. nat_abs (imbalance_at m row h)))
 
 unfoldable pub aosmf : Tables → ℕ
-aosmf m = halfUp (weightedPrices m) (weights m)
+aosmf m = half_up (weighted_prices m) (weights m)
 
 -- AEDM: Σ(imbalance − DM) of the group asked
 unfoldable pub aedm : Tables → ℤ
-aedm m = sumℤ (hours m) (λ h. imbalanceAt m m.group h -ℤ dmAt m h)
+aedm m = sum_ℤ (hours m) (λ h. imbalance_at m m.group h -ℤ dm_at m h)
 
-unfoldable pub monthFigures : Tables → Month
-monthFigures m = record { aosmf = aosmf m; aedm = aedm m }
+unfoldable pub month_figures : Tables → Month
+month_figures m = record { aosmf = aosmf m; aedm = aedm m }
 
-unfoldable pub monthAnswer : Tables → MonthAnswer
-monthAnswer m =
+unfoldable pub month_answer : Tables → MonthAnswer
+month_answer m =
     record {
-      answer = monthCause m;
-      month = ifDone (monthCause m) (monthFigures m) (record { aosmf = 0; aedm = pos 0 });
+      answer = month_cause m;
+      month = if_done (month_cause m) (month_figures m) (record { aosmf = 0; aedm = pos 0 });
     }

@@ -2,7 +2,7 @@
 -- the laws of proofs/BookLaws.antt tie them to the records.
 use Rattle.std.specs.Prelude.{List, ℕ, ◌+◌, ◌*◌, ◌/◌, ◌%◌, get_or, set}
 use Rattle.rules.specs.Entry.{Key, standing}
-use Rattle.rules.specs.Words.{statusUnit, lowAmounts, word, typeBits, countOf}
+use Rattle.rules.specs.Words.{status_unit, low_amounts, word, type_bits, count_of}
 use Rattle.rules.specs.Book.{place_of}
 
 -- a standing entry's five words stored at a place
@@ -14,16 +14,16 @@ stored_at ws at k a =
     (set
     (set ws at (word 1 k.party))
     (at + 1) (word 2 k.day))
-    (at + 2) (word 3 (typeBits k.type k.counterparty standing)))
-    (at + 3) (word 4 (a % lowAmounts)))
-    (at + 4) (word 5 (a / lowAmounts))
+    (at + 2) (word 3 (type_bits k.type k.counterparty standing)))
+    (at + 3) (word 4 (a % low_amounts)))
+    (at + 4) (word 5 (a / low_amounts))
 
 unfoldable pub posted : List ℕ → Key → ℕ → List ℕ
-posted ws k a = set (stored_at ws (place_of (countOf ws)) k a) 0 (word 6 (countOf ws + 1))
+posted ws k a = set (stored_at ws (place_of (count_of ws)) k a) 0 (word 6 (count_of ws + 1))
 
 -- a kind 3 word of a standing entry, with another status
 abbrev pub raised : ℕ → ℕ → ℕ
-raised status w = w + status * statusUnit
+raised status w = w + status * status_unit
 
 -- entry n, standing until now, with another status
 unfoldable pub restatused : ℕ → List ℕ → ℕ → List ℕ

@@ -1,9 +1,9 @@
 // Internal: the scan of a checked book for the tally and B, for the crates above it. A caller meets each `requires`.
 ghost use Rattle.std.specs.Prelude.{◌≡◌, ◌≤◌, true};
-ghost use Rattle.tally.specs.Scan.{scanned, noneFor};
-ghost use Rattle.rules.specs.Entry.{lastParty, lastDay, isVolume};
-ghost use Rattle.rules.specs.Words.{isBook, entries};
-ghost use Rattle.rules.specs.Balance.{noTally, sumPlace};
+ghost use Rattle.tally.specs.Scan.{scanned, none_for};
+ghost use Rattle.rules.specs.Entry.{last_party, last_day, is_volume};
+ghost use Rattle.rules.specs.Words.{is_book, entries};
+ghost use Rattle.rules.specs.Balance.{no_tally, sum_place};
 
 use rules::layout::{
     BILATERAL, DAY_WORD, ENTRY_WORDS, FIGURES_WORD, HEAD_WORDS, PARTY_WORD, TYPES, UPDATED_PROGRAM,
@@ -16,8 +16,8 @@ const EXPORT: u32 = FIGURES_WORD + BILATERAL;
 
 // Where the sum of a volume type stands in the tally: that of type 22 last.
 pub fn sum_place(entry_type: u32) -> usize
-    requires { isVolume entry_type ≡ true }
-    ensures { result ≡ sumPlace entry_type }
+    requires { is_volume entry_type ≡ true }
+    ensures { result ≡ sum_place entry_type }
 {
     if entry_type == UPDATED_PROGRAM {
         return SUMS - 1;
@@ -28,10 +28,10 @@ pub fn sum_place(entry_type: u32) -> usize
 // One pass over a checked book for the tally and B. The tally comes by value and goes back by value; each amount is added
 // where its sum lies. Whole words are compared: a word of a book has its kind and no unnamed bit.
 fn tallied(mut t: Tally, book: &[u32], day: u32) -> TallyAnswer
-    requires fact_1 { isBook book.now ≡ true }
-    requires fact_2 { t.party ≤ lastParty }
-    requires fact_3 { day ≤ lastDay }
-    requires fact_4 { t.sums ≡ noTally.sums }
+    requires fact_1 { is_book book.now ≡ true }
+    requires fact_2 { t.party ≤ last_party }
+    requires fact_3 { day ≤ last_day }
+    requires fact_4 { t.sums ≡ no_tally.sums }
     ensures { result ≡ scanned t.party day (entries book.now) }
 {
     let count = words::count_of(book) as usize;
@@ -67,7 +67,7 @@ fn tallied(mut t: Tally, book: &[u32], day: u32) -> TallyAnswer
 
 // The tally and B of a party's day.
 pub fn scan(book: &[u32], party: u32, day: u32) -> TallyAnswer
-    requires { (isBook book.now ≡ true) × ((party ≤ lastParty) × (day ≤ lastDay)) }
+    requires { (is_book book.now ≡ true) × ((party ≤ last_party) × (day ≤ last_day)) }
     ensures { result ≡ scanned party day (entries book.now) }
 {
     let t = Tally {
@@ -79,7 +79,7 @@ pub fn scan(book: &[u32], party: u32, day: u32) -> TallyAnswer
 
 // The tally of a refusal: each figure is zero.
 pub fn no_tally(cause: u32) -> TallyAnswer
-    ensures { result ≡ noneFor cause }
+    ensures { result ≡ none_for cause }
 {
     TallyAnswer {
         answer: cause,

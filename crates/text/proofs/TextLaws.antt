@@ -11,9 +11,9 @@ use lib.IntN.{ℤ, pos, negsuc, nat_abs}
 use lib.ListN.{length, get_or, take, drop, set, length-append, length-set}
 use lib.Seq.{set_out, drop-cons, take_at, drop_at, length-take-le}
 use borrow.Author.Tests.{ltb-true, lt-ltb, le-ltb}
-use Rattle.numbers.specs.Signed.{isNegative}
+use Rattle.numbers.specs.Signed.{is_negative}
 use Rattle.numbers.proofs.TestLaws.{below-or-above}
-use Rattle.text.specs.Text.{digits, decimal, signed, refusal, eachFrom, over, Wrote, Whole}
+use Rattle.text.specs.Text.{digits, decimal, signed, refusal, each_from, over, Wrote, Whole}
 
 -- text after text
 pub over-append : (s t out : List ℕ) (at : ℕ) → over out at (s ++ t) ≡ over (over out at s) (at + length s) t
@@ -130,12 +130,12 @@ pub next-byte : (bs : List ℕ) (i : ℕ) → i < length bs → drop i bs ≡ (g
 next-byte bs i h = rw (add-one i, drop-cons bs i 0 h)
 
 -- a negative number has a minus sign
-pub signed-negative : (x : ℤ) → isNegative x ≡ true → signed x ≡ (45 ∷ []) ++ decimal (nat_abs x)
+pub signed-negative : (x : ℤ) → is_negative x ≡ true → signed x ≡ (45 ∷ []) ++ decimal (nat_abs x)
 unfolding signed
 signed-negative (pos n) e = absurd (omega (arith, ltb-true n 0 e))
 signed-negative (negsuc n) e = refl
 
-pub signed-other : (x : ℤ) → isNegative x ≡ false → signed x ≡ decimal (nat_abs x)
+pub signed-other : (x : ℤ) → is_negative x ≡ false → signed x ≡ decimal (nat_abs x)
 unfolding signed
 signed-other (pos n) e = refl
 signed-other (negsuc n) e = absurd (true≢false e)
@@ -206,30 +206,30 @@ wrote-whole {out} {s} w h =
     }
 
 -- the text of one number more, up to an end
-pub each_step : (f : ℕ → List ℕ) (end k : ℕ) → k < end → eachFrom f (end - k) k ≡ f k ++ eachFrom f (end - (k + 1)) (k + 1)
-unfolding eachFrom
+pub each_step : (f : ℕ → List ℕ) (end k : ℕ) → k < end → each_from f (end - k) k ≡ f k ++ each_from f (end - (k + 1)) (k + 1)
+unfolding each_from
 each_step f end k h = let e : end - k ≡ suc (end - (k + 1)) = omega arith in rw e
 
-pub each-end : (f : ℕ → List ℕ) (end k : ℕ) → end ≤ k → eachFrom f (end - k) k ≡ []
-unfolding eachFrom
+pub each-end : (f : ℕ → List ℕ) (end k : ℕ) → end ≤ k → each_from f (end - k) k ≡ []
+unfolding each_from
 each-end f end k h = let e : end - k ≡ 0 = omega arith in rw e
 
-pub each_same : (f g : ℕ → List ℕ) (n k : ℕ) → ((i : ℕ) → i < k + n → f i ≡ g i) → eachFrom f n k ≡ eachFrom g n k
-unfolding eachFrom
+pub each_same : (f g : ℕ → List ℕ) (n k : ℕ) → ((i : ℕ) → i < k + n → f i ≡ g i) → each_from f n k ≡ each_from g n k
+unfolding each_from
 each_same f g zero k h = refl
 each_same f g (suc n) k h = ap₂ ◌++◌ (h k (omega arith)) (each_same f g n (k + 1) (λ i l. h i (omega arith)))
 
-pub each_none : (f : ℕ → List ℕ) (n k : ℕ) → ((i : ℕ) → f i ≡ []) → eachFrom f n k ≡ []
-unfolding eachFrom
+pub each_none : (f : ℕ → List ℕ) (n k : ℕ) → ((i : ℕ) → f i ≡ []) → each_from f n k ≡ []
+unfolding each_from
 each_none f zero k h = refl
 each_none f (suc n) k h = rw (h k) (each_none f n (k + 1) h)
 
 -- each text within a length
-pub each-most : (f : ℕ → List ℕ) (most n k : ℕ) → ((i : ℕ) → i < k + n → length (f i) ≤ most) → length (eachFrom f n k) ≤ n * most
-unfolding eachFrom
+pub each-most : (f : ℕ → List ℕ) (most n k : ℕ) → ((i : ℕ) → i < k + n → length (f i) ≤ most) → length (each_from f n k) ≤ n * most
+unfolding each_from
 each-most f most zero k h = zero-le
 each-most f most (suc n) k h =
-    rw (length-append (f k) (eachFrom f n (k + 1)), suc-mul n most)
+    rw (length-append (f k) (each_from f n (k + 1)), suc-mul n most)
     (omega (arith, h k (omega arith), each-most f most n (k + 1) (λ i l. h i (omega arith))))
 
 -- the place after a text counts bytes of the slice

@@ -20,9 +20,9 @@ unfoldable pub refusal : ℕ → List ℕ
 refusal cause = (114 ∷ 101 ∷ 102 ∷ 117 ∷ 115 ∷ 101 ∷ 100 ∷ 32 ∷ []) ++ decimal cause ++ (10 ∷ [])
 
 -- the texts of n numbers from k on
-unfoldable pub eachFrom : (ℕ → List ℕ) → ℕ → ℕ → List ℕ
-eachFrom text zero k = []
-eachFrom text (suc n) k = text k ++ eachFrom text n (k + 1)
+unfoldable pub each_from : (ℕ → List ℕ) → ℕ → ℕ → List ℕ
+each_from text zero k = []
+each_from text (suc n) k = text k ++ each_from text n (k + 1)
 
 -- bytes laid over a lent slice, from a place on; what is past its end is left out
 unfoldable pub over : List ℕ → ℕ → List ℕ → List ℕ

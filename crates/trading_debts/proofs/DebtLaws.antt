@@ -6,12 +6,12 @@ use Prim.Native.Nat.{ℕ, zero, suc, ◌+◌, ◌-◌, ◌*◌, min, ◌≤◌, 
 use native.Mathlib.Omega.{arith}
 use lib.ListN.{get_or}
 use Rattle.numbers.proofs.SumLaws.{cond_below}
-use Rattle.rules.specs.Collateral.{Money, debtOf, debts}
+use Rattle.rules.specs.Collateral.{Money, debt_of, debts}
 use Rattle.cells.specs.Cells.{AtMost}
-use Rattle.trading_debts.specs.Window.{mostInCell, moneyIn}
-use Rattle.trading_debts.specs.Walk.{chosen, leftAfter, owed}
+use Rattle.trading_debts.specs.Window.{most_in_cell, money_in}
+use Rattle.trading_debts.specs.Walk.{chosen, left_after, owed}
 
-pub owed-limit : (a i : Bool) (b s c t : ℕ) → b ≤ mostInCell → c ≤ mostInCell → owed a i b s c t ≤ 2 * mostInCell
+pub owed-limit : (a i : Bool) (b s c t : ℕ) → b ≤ most_in_cell → c ≤ most_in_cell → owed a i b s c t ≤ 2 * most_in_cell
 owed-limit a i b s c t hb hc = omega (arith, cond_below a b, cond_below i c)
 
 -- one day of the walk
@@ -19,10 +19,10 @@ module _ (cells : List ℕ) (g i : ℕ) (d : i < 30) (e : i < g) (a b : ℕ) whe
   abbrev at : ℕ → ℕ
   at j = get_or cells (4 * i + j) 0
 
-  pub walk-day : debts (moneyIn cells g) (30 - i) (g - i) a b
+  pub walk-day : debts (money_in cells g) (30 - i) (g - i) a b
       ≡ owed (chosen a (get_or cells (4 * i) 0) (at 1)) (chosen b (at 2) (at 3)) (get_or cells (4 * i) 0) (at 1) (at 2) (at 3)
-      + debts (moneyIn cells g) (30 - (i + 1)) (g - (i + 1)) (leftAfter a (get_or cells (4 * i) 0) (at 1)) (leftAfter b (at 2) (at 3))
-  unfolding debts debtOf
+      + debts (money_in cells g) (30 - (i + 1)) (g - (i + 1)) (left_after a (get_or cells (4 * i) 0) (at 1)) (left_after b (at 2) (at 3))
+  unfolding debts debt_of
   walk-day =
       let n : 30 - i ≡ suc (30 - (i + 1)) = omega arith in
       let m : g - i ≡ suc (g - (i + 1)) = omega arith in
@@ -33,10 +33,10 @@ module _ (cells : List ℕ) (g i : ℕ) (d : i < 30) (e : i < g) (a b : ℕ) whe
       rw (n, m, e0, e1, e2, e3)
 
   -- the debts so far and those still to come
-  pub walk_more : {w v x y all : ℕ} → AtMost mostInCell cells → w ≤ i * (2 * mostInCell) → all ≡ w + debts (moneyIn cells g) (30 - i) (g - i) a b →
+  pub walk_more : {w v x y all : ℕ} → AtMost most_in_cell cells → w ≤ i * (2 * most_in_cell) → all ≡ w + debts (money_in cells g) (30 - i) (g - i) a b →
       v ≡ w + owed (chosen a (get_or cells (4 * i) 0) (at 1)) (chosen b (at 2) (at 3)) (get_or cells (4 * i) 0) (at 1) (at 2) (at 3) →
-      x ≡ leftAfter a (get_or cells (4 * i) 0) (at 1) → y ≡ leftAfter b (at 2) (at 3) →
-      (v ≤ (i + 1) * (2 * mostInCell)) × (all ≡ v + debts (moneyIn cells g) (30 - (i + 1)) (g - (i + 1)) x y)
+      x ≡ left_after a (get_or cells (4 * i) 0) (at 1) → y ≡ left_after b (at 2) (at 3) →
+      (v ≤ (i + 1) * (2 * most_in_cell)) × (all ≡ v + debts (money_in cells g) (30 - (i + 1)) (g - (i + 1)) x y)
   walk_more l few q ev ex ey =
       let most =
       owed-limit (chosen a (get_or cells (4 * i) 0) (at 1)) (chosen b (at 2) (at 3)) (get_or cells (4 * i) 0) (at 1) (at 2) (at 3)

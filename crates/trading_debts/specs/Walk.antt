@@ -5,8 +5,8 @@ use Rattle.std.specs.Prelude.{Bool, cond, ◌&&◌, ℕ, ◌+◌, ◌-◌, ltb}
 abbrev pub chosen : ℕ → ℕ → ℕ → Bool
 chosen left bought sold = ltb 0 left && ltb 0 (bought + sold)
 
-abbrev pub leftAfter : ℕ → ℕ → ℕ → ℕ
-leftAfter left bought sold = left - cond (chosen left bought sold) 1 0
+abbrev pub left_after : ℕ → ℕ → ℕ → ℕ
+left_after left bought sold = left - cond (chosen left bought sold) 1 0
 
 -- the debt of a day by which markets chose it: day-ahead money, then intraday money
 abbrev pub owed : Bool → Bool → ℕ → ℕ → ℕ → ℕ → ℕ

@@ -1,16 +1,16 @@
 // Internal: the debts of the latest days that each market chooses (01, 'Collateral', Trading). A caller meets each `requires`.
 ghost use Rattle.std.specs.Prelude.{◌≡◌, true, cond, ◌+◌, ◌-◌, ◌*◌, ◌≤◌, min};
-ghost use Rattle.rules.specs.Words.{isBook, entries};
-ghost use Rattle.rules.specs.Collateral.{debts, moneyOf};
+ghost use Rattle.rules.specs.Words.{is_book, entries};
+ghost use Rattle.rules.specs.Collateral.{debts, money_of};
 ghost use Rattle.cells.specs.Cells.{AtMost};
-ghost use Rattle.trading_debts.specs.Window.{windowDays, mostInCell, moneyIn};
-ghost use Rattle.trading_debts.specs.Walk.{chosen, leftAfter, owed};
+ghost use Rattle.trading_debts.specs.Window.{window_days, most_in_cell, money_in};
+ghost use Rattle.trading_debts.specs.Walk.{chosen, left_after, owed};
 
 mod window;
 
 // A market with days left to choose takes a day with money.
 fn chooses(left: u32, bought: u64, sold: u64) -> bool
-    requires { (bought ≤ mostInCell) × (sold ≤ mostInCell) }
+    requires { (bought ≤ most_in_cell) × (sold ≤ most_in_cell) }
     ensures { result ≡ chosen left bought sold }
 {
     (0 < left) & (0 < bought + sold)
@@ -41,7 +41,7 @@ fn owed_on(
     bought_intraday: u64,
     sold_intraday: u64,
 ) -> u64
-    requires { (bought ≤ mostInCell) × (sold ≤ mostInCell) × (bought_intraday ≤ mostInCell) × (sold_intraday ≤ mostInCell) }
+    requires { (bought ≤ most_in_cell) × (sold ≤ most_in_cell) × (bought_intraday ≤ most_in_cell) × (sold_intraday ≤ most_in_cell) }
     ensures { result ≡ owed ahead intraday bought sold bought_intraday sold_intraday }
 {
     let purchases = counted(ahead, bought) + counted(intraday, bought_intraday);
@@ -63,8 +63,8 @@ struct Walk {
 
 // One day further back.
 fn day_before(walk: Walk, bought: u64, sold: u64, bought_intraday: u64, sold_intraday: u64) -> Walk
-    requires { (walk.debt ≤ 30 * (2 * mostInCell)) × (bought ≤ mostInCell) × (sold ≤ mostInCell) × (bought_intraday ≤ mostInCell) × (sold_intraday ≤ mostInCell) }
-    ensures { (result.debt ≡ walk.debt + owed (chosen walk.ahead bought sold) (chosen walk.intraday bought_intraday sold_intraday) bought sold bought_intraday sold_intraday) × (result.ahead ≡ leftAfter walk.ahead bought sold) × (result.intraday ≡ leftAfter walk.intraday bought_intraday sold_intraday) }
+    requires { (walk.debt ≤ 30 * (2 * most_in_cell)) × (bought ≤ most_in_cell) × (sold ≤ most_in_cell) × (bought_intraday ≤ most_in_cell) × (sold_intraday ≤ most_in_cell) }
+    ensures { (result.debt ≡ walk.debt + owed (chosen walk.ahead bought sold) (chosen walk.intraday bought_intraday sold_intraday) bought sold bought_intraday sold_intraday) × (result.ahead ≡ left_after walk.ahead bought sold) × (result.intraday ≡ left_after walk.intraday bought_intraday sold_intraday) }
 {
     let ahead = chooses(walk.ahead, bought, sold);
     let intraday = chooses(walk.intraday, bought_intraday, sold_intraday);
@@ -86,15 +86,15 @@ fn day_before(walk: Walk, bought: u64, sold: u64, bought_intraday: u64, sold_int
 
 // The window ends at day 0.
 fn window_days(day: u32) -> u32
-    ensures { result ≡ min windowDays day }
+    ensures { result ≡ min window_days day }
 {
     if day < 30 { day } else { 30 }
 }
 
 // D: each market chooses its latest k days with money, and a day's debt is over the markets that chose it.
 fn debts_of(cells: &[u64; 120], day: u32, k: u32) -> u64
-    requires { AtMost mostInCell cells.now }
-    ensures { result ≡ debts (moneyIn cells.now day) 30 day k k }
+    requires { AtMost most_in_cell cells.now }
+    ensures { result ≡ debts (money_in cells.now day) 30 day k k }
 {
     let days = window_days(day);
     let mut walk = Walk {
@@ -113,8 +113,8 @@ fn debts_of(cells: &[u64; 120], day: u32, k: u32) -> u64
 
 // D of a party on day g, with k days a market.
 pub fn debt_of(book: &[u32], party: u32, day: u32, k: u32) -> u64
-    requires { isBook book.now ≡ true }
-    ensures { result ≡ debts (moneyOf party (entries book.now)) 30 day k k }
+    requires { is_book book.now ≡ true }
+    ensures { result ≡ debts (money_of party (entries book.now)) 30 day k k }
 {
     let cells = window::window_of(book, party, day);
     debts_of(&cells, day, k)

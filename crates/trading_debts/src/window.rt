@@ -1,9 +1,9 @@
 // Internal: the money of a party on the 30 days before day g, in a table of days and types (01, 'Collateral', Trading). A caller meets each `requires`.
 ghost use Rattle.std.specs.Prelude.{◌≡◌, true, ◌+◌, ◌≤◌, length, drop};
-ghost use Rattle.rules.specs.Entry.{mostMoney};
-ghost use Rattle.rules.specs.Words.{decode, isBook, entries};
+ghost use Rattle.rules.specs.Entry.{most_money};
+ghost use Rattle.rules.specs.Words.{decode, is_book, entries};
 ghost use Rattle.cells.specs.Cells.{added, AtMost};
-ghost use Rattle.trading_debts.specs.Window.{mostInCell, cell_of, windowCells, windowOf};
+ghost use Rattle.trading_debts.specs.Window.{most_in_cell, cell_of, window_cells, window_of};
 
 const CELLS: usize = 120;
 
@@ -31,9 +31,9 @@ pub fn cell_at(book: &[u32], at: usize, party: u32, day: u32) -> usize
 // Adds the entry at a place to its cell.
 pub fn add_entry(cells: &mut [u64; 120], book: &[u32], at: usize, party: u32, day: u32)
     requires at_in_bounds { at + 5 ≤ length book.now }
-    requires book_bound { (decode (drop at book.now)).amount ≤ mostMoney }
-    requires at_most { AtMost mostInCell cells.old }
-    ensures { cells.new ≡ added (windowCells party day) (decode (drop at book.now)) cells.old }
+    requires book_bound { (decode (drop at book.now)).amount ≤ most_money }
+    requires at_most { AtMost most_in_cell cells.old }
+    ensures { cells.new ≡ added (window_cells party day) (decode (drop at book.now)) cells.old }
 {
     let cell = cell_at(book, at, party, day);
     if cell < CELLS {
@@ -43,8 +43,8 @@ pub fn add_entry(cells: &mut [u64; 120], book: &[u32], at: usize, party: u32, da
 
 // The sums of a party's money on each day of the window, by one pass over the book.
 pub fn window_of(book: &[u32], party: u32, day: u32) -> [u64; 120]
-    requires { isBook book.now ≡ true }
-    ensures { (result ≡ windowOf party day (entries book.now)) × AtMost mostInCell result }
+    requires { is_book book.now ≡ true }
+    ensures { (result ≡ window_of party day (entries book.now)) × AtMost most_in_cell result }
 {
     let mut cells = [0u64; CELLS];
     let count = words::count_of(book);

@@ -26,8 +26,8 @@ pub record SameBytes (a b c d w : ℕ) : Type 0 where
   pub third : w / 65536 % 256 ≡ c
   pub fourth : w / 16777216 ≡ d
 
-pub bytes-of-word : (a b c d : ℕ) → a < 256 → b < 256 → c < 256 → d < 256 → SameBytes a b c d (a + b * 256 + c * 65536 + d * 16777216)
-bytes-of-word a b c d ha hb hc hd =
+pub bytes_of-word : (a b c d : ℕ) → a < 256 → b < 256 → c < 256 → d < 256 → SameBytes a b c d (a + b * 256 + c * 65536 + d * 16777216)
+bytes_of-word a b c d ha hb hc hd =
     record { first = omega arith; second = omega arith; third = omega arith; fourth = omega arith }
 
 pub word-of-bytes : (w : ℕ) → w % 256 + w / 256 % 256 * 256 + w / 65536 % 256 * 65536 + w / 16777216 * 16777216 ≡ w
@@ -68,7 +68,7 @@ bytes_back (suc n) (a ∷ []) h l = absurd (omega arith)
 bytes_back (suc n) (a ∷ b ∷ []) h l = absurd (omega arith)
 bytes_back (suc n) (a ∷ b ∷ c ∷ []) h l = absurd (omega arith)
 bytes_back (suc n) (a ∷ b ∷ c ∷ d ∷ bs) h l =
-    let s = bytes-of-word a b c d (h 0) (h 1) (h 2) (h 3) in
+    let s = bytes_of-word a b c d (h 0) (h 1) (h 2) (h 3) in
     let m : 4 * suc n ≡ suc (suc (suc (suc (4 * n)))) = omega arith in
     rw (m, s.first, s.second, s.third, s.fourth, bytes_back n bs (λ i. h (suc (suc (suc (suc i))))) (omega arith))
 

@@ -11,29 +11,29 @@ use lib.ListN.{length, get_or, take, drop, length-append, length-drop, take-appe
 use lib.Seq.{take_all, take-length, take_at, length-take-le, drop-length, drop_at, drop-drop}
 use mir.Val.{bool_byte}
 use borrow.Author.Tests.{leb-true, leb-false, eqb-true}
-use Rattle.rules.specs.Words.{bookWords, usedWith}
-use Rattle.numbers.specs.Causes.{ifDone}
+use Rattle.rules.specs.Words.{book_words, used_with}
+use Rattle.numbers.specs.Causes.{if_done}
 use Rattle.numbers.proofs.TestLaws.{bool_cases}
 use Rattle.rules.specs.DayFile.{words_of}
-use Rattle.word_bytes.specs.Bytes.{bytes_of, isWhole, onWords, with_words, yesNo}
-use Rattle.word_bytes.specs.Coding.{overBytes, words_in, countIn, neededFor, Decoded}
+use Rattle.word_bytes.specs.Bytes.{bytes_of, is_whole, on_words, with_words, yes_no}
+use Rattle.word_bytes.specs.Coding.{over_bytes, words_in, count_in, needed_for, Decoded}
 use Rattle.word_bytes.proofs.BytesLaws.{Bytes, length-words, bytes_back, bytes-append, bytes_past}
 
 -- how many words are read
-pub count-lent : (m : ℕ) (bs : List ℕ) → 4 * countIn m bs ≤ length bs
-unfolding countIn
-count-lent m bs = elim (bool_cases (isWhole bs)) [ inl e ↦ rw e (omega arith) | inr e ↦ rw e (omega arith) ]
+pub count-lent : (m : ℕ) (bs : List ℕ) → 4 * count_in m bs ≤ length bs
+unfolding count_in
+count-lent m bs = elim (bool_cases (is_whole bs)) [ inl e ↦ rw e (omega arith) | inr e ↦ rw e (omega arith) ]
 
-pub count-odd : (m : ℕ) (bs : List ℕ) → isWhole bs ≡ false → 0 ≡ countIn m bs
-unfolding countIn
+pub count-odd : (m : ℕ) (bs : List ℕ) → is_whole bs ≡ false → 0 ≡ count_in m bs
+unfolding count_in
 count-odd m bs w = rw w
 
-pub count-whole : (m : ℕ) {n : ℕ} (bs : List ℕ) → isWhole bs ≡ true → n ≡ min m (length bs / 4) → n ≡ countIn m bs
-unfolding countIn
+pub count-whole : (m : ℕ) {n : ℕ} (bs : List ℕ) → is_whole bs ≡ true → n ≡ min m (length bs / 4) → n ≡ count_in m bs
+unfolding count_in
 count-whole m bs w e = e ∙ rw w
 
 -- less than a word has no entries
-pub used-none : (k : ℕ) (bs : List ℕ) → length bs < 4 → min bookWords (3 + 5 * (0 + k)) ≡ usedWith k (words_of bs)
+pub used-none : (k : ℕ) (bs : List ℕ) → length bs < 4 → min book_words (3 + 5 * (0 + k)) ≡ used_with k (words_of bs)
 unfolding words_of
 used-none k [] h = refl
 used-none k (a ∷ []) h = refl
@@ -42,9 +42,9 @@ used-none k (a ∷ b ∷ c ∷ []) h = refl
 used-none k (a ∷ b ∷ c ∷ d ∷ bs) h = absurd (omega arith)
 
 -- and that arrays for the most entries have them
-pub needed-most : (k : ℕ) (bs : List ℕ) → neededFor k bs ≤ bookWords
-unfolding countIn
-needed-most k bs = elim (bool_cases (isWhole bs)) [ inl e ↦ rw e (omega arith) | inr e ↦ rw e (omega arith) ]
+pub needed-most : (k : ℕ) (bs : List ℕ) → needed_for k bs ≤ book_words
+unfolding count_in
+needed-most k bs = elim (bool_cases (is_whole bs)) [ inl e ↦ rw e (omega arith) | inr e ↦ rw e (omega arith) ]
 
 take-cut : (m : ℕ) (ws : List ℕ) → take (min m (length ws)) ws ≡ take m ws
 take-cut m ws =
@@ -55,13 +55,13 @@ take-cut m ws =
           rw (e, take-length ws) (sym (take_all m ws (omega (arith, leb-false m (length ws) h))))
     ]
 
-pub decoded : (m : ℕ) (bs : List ℕ) → take (countIn m bs) (words_of bs) ≡ words_in m bs
-unfolding countIn words_in
+pub decoded : (m : ℕ) (bs : List ℕ) → take (count_in m bs) (words_of bs) ≡ words_in m bs
+unfolding count_in words_in
 decoded m bs =
-    elim (bool_cases (isWhole bs)) [ inl e ↦ rw (e, ← length-words bs) (take-cut m (words_of bs)) | inr e ↦ rw e ]
+    elim (bool_cases (is_whole bs)) [ inl e ↦ rw (e, ← length-words bs) (take-cut m (words_of bs)) | inr e ↦ rw e ]
 
 -- the part of lent words that was read
-pub part-read : (m : ℕ) (bs ws us : List ℕ) (n k : ℕ) → n ≡ countIn m bs → n ≡ k → length ws ≡ k → ws ≡ take k (words_of bs) → take n (ws ++ us) ≡ words_in m bs
+pub part-read : (m : ℕ) (bs ws us : List ℕ) (n k : ℕ) → n ≡ count_in m bs → n ≡ k → length ws ≡ k → ws ≡ take k (words_of bs) → take n (ws ++ us) ≡ words_in m bs
 part-read m bs ws us n k e h l v = take_at ws us n (l ∙ sym h) ∙ v ∙ ap (λ i. take i (words_of bs)) (sym h ∙ e) ∙ decoded m bs
 
 -- the first n of some words
@@ -82,31 +82,31 @@ module _ (n : ℕ) (ws vs : List ℕ) (h : n ≤ length ws) (k : length vs ≡ l
 pub ruleset parts = (taken, back_long, back-taken, back-lent)
 
 -- the words that the code reads
-words-whole : (m : ℕ) (bs : List ℕ) → isWhole bs ≡ true → words_in m bs ≡ take m (words_of bs)
+words-whole : (m : ℕ) (bs : List ℕ) → is_whole bs ≡ true → words_in m bs ≡ take m (words_of bs)
 unfolding words_in
 words-whole m bs w = rw w
 
-pub words-none : (m : ℕ) (bs : List ℕ) → isWhole bs ≡ false → words_in m bs ≡ []
+pub words-none : (m : ℕ) (bs : List ℕ) → is_whole bs ≡ false → words_in m bs ≡ []
 unfolding words_in
 words-none m bs w = rw w
 
 -- on them a call answers as on the bytes: no words are no book
-pub on-words : {A : Type 0} {m : ℕ} {bs ws : List ℕ} {n : ℕ} → Decoded m bs ws n → (f : List ℕ → A) (refused : A) → f [] ≡ refused → f (take m (words_of bs)) ≡ f (words_of bs) → f (take n ws) ≡ onWords bs f refused
-unfolding onWords words_in
+pub on-words : {A : Type 0} {m : ℕ} {bs ws : List ℕ} {n : ℕ} → Decoded m bs ws n → (f : List ℕ → A) (refused : A) → f [] ≡ refused → f (take m (words_of bs)) ≡ f (words_of bs) → f (take n ws) ≡ on_words bs f refused
+unfolding on_words words_in
 on-words {bs = bs} r f refused e c =
-    ap f r.read ∙ elim (bool_cases (isWhole bs)) [ inl w ↦ rw w c | inr w ↦ rw w e ]
+    ap f r.read ∙ elim (bool_cases (is_whole bs)) [ inl w ↦ rw w c | inr w ↦ rw w e ]
 
 -- a figure of such an answer
-pub on-figure : {A B : Type 0} (bs : List ℕ) (g : A → B) (f : List ℕ → A) (refused : A) → g (onWords bs f refused) ≡ onWords bs (λ ws. g (f ws)) (g refused)
-unfolding onWords
-on-figure bs g f refused = elim (bool_cases (isWhole bs)) [ inl w ↦ rw w | inr w ↦ rw w ]
+pub on-figure : {A B : Type 0} (bs : List ℕ) (g : A → B) (f : List ℕ → A) (refused : A) → g (on_words bs f refused) ≡ on_words bs (λ ws. g (f ws)) (g refused)
+unfolding on_words
+on-figure bs g f refused = elim (bool_cases (is_whole bs)) [ inl w ↦ rw w | inr w ↦ rw w ]
 
 -- the words that the code reads have the bytes that it read
-pub same_bytes : (m : ℕ) (bs : List ℕ) → Bytes bs → overBytes (words_in m bs) bs ≡ bs
-unfolding overBytes
+pub same_bytes : (m : ℕ) (bs : List ℕ) → Bytes bs → over_bytes (words_in m bs) bs ≡ bs
+unfolding over_bytes
 same_bytes m bs h =
-    let l : countIn m bs ≤ length (words_of bs) = omega (arith, count-lent m bs, length-words bs) in
-    rw (← decoded m bs, length-take-le (countIn m bs) (words_of bs) l) (bytes_back (countIn m bs) bs h (count-lent m bs))
+    let l : count_in m bs ≤ length (words_of bs) = omega (arith, count-lent m bs, length-words bs) in
+    rw (← decoded m bs, length-take-le (count_in m bs) (words_of bs) l) (bytes_back (count_in m bs) bs h (count-lent m bs))
 
 -- a call that writes: its cause and the words that it leaves. A refused one leaves all, on no words none are left, and no words past the first m are seen
 pub record Call (m : ℕ) (bs : List ℕ) : Type 0 where
@@ -116,37 +116,37 @@ pub record Call (m : ℕ) (bs : List ℕ) : Type 0 where
   pub none : leaves [] ≡ []
   pub uncut : leaves (words_of bs) ≡ leaves (take m (words_of bs)) ++ drop m (words_of bs)
 
-over-cut : (m : ℕ) (bs : List ℕ) (f : Call m bs) → Bytes bs → isWhole bs ≡ true → length (f.leaves (take m (words_of bs))) ≡ length (take m (words_of bs)) → overBytes (f.leaves (take m (words_of bs))) bs ≡ bytes_of (f.leaves (words_of bs))
-unfolding overBytes
+over-cut : (m : ℕ) (bs : List ℕ) (f : Call m bs) → Bytes bs → is_whole bs ≡ true → length (f.leaves (take m (words_of bs))) ≡ length (take m (words_of bs)) → over_bytes (f.leaves (take m (words_of bs))) bs ≡ bytes_of (f.leaves (words_of bs))
+unfolding over_bytes
 over-cut m bs f b w l =
     let cut = take m (words_of bs) in
     ap (λ us. bytes_of (f.leaves cut) ++ us) (rw l (sym (bytes_past bs b (eqb-true _ _ w) m)))
     ∙ sym (bytes-append (f.leaves cut) (drop m (words_of bs)))
     ∙ ap bytes_of (sym f.uncut)
 
-pub over_none : (bs : List ℕ) → overBytes [] bs ≡ bs
-unfolding overBytes bytes_of
+pub over_none : (bs : List ℕ) → over_bytes [] bs ≡ bs
+unfolding over_bytes bytes_of
 over_none bs = refl
 
-with-words : (m : ℕ) (bs : List ℕ) (f : Call m bs) → Bytes bs → length (f.leaves (words_in m bs)) ≡ length (words_in m bs) → overBytes (f.leaves (words_in m bs)) bs ≡ with_words bs f.leaves
+with-words : (m : ℕ) (bs : List ℕ) (f : Call m bs) → Bytes bs → length (f.leaves (words_in m bs)) ≡ length (words_in m bs) → over_bytes (f.leaves (words_in m bs)) bs ≡ with_words bs f.leaves
 unfolding with_words
-with-words m bs f b l = go (isWhole bs) refl
+with-words m bs f b l = go (is_whole bs) refl
   where
-    go : (t : Bool) → isWhole bs ≡ t → overBytes (f.leaves (words_in m bs)) bs ≡ with_words bs f.leaves
+    go : (t : Bool) → is_whole bs ≡ t → over_bytes (f.leaves (words_in m bs)) bs ≡ with_words bs f.leaves
     go false w = rw (w, words-none m bs w, f.none) (over_none bs)
     go true w = rw (w, words-whole m bs w) (over-cut m bs f b w (rw (words-whole m bs w) at l))
 
-written : (c : ℕ) (ws vs bs : List ℕ) → overBytes ws bs ≡ bs → (c ≢ 0 → vs ≡ ws) → ifDone c (overBytes vs bs) bs ≡ overBytes vs bs
+written : (c : ℕ) (ws vs bs : List ℕ) → over_bytes ws bs ≡ bs → (c ≢ 0 → vs ≡ ws) → if_done c (over_bytes vs bs) bs ≡ over_bytes vs bs
 written zero ws vs bs e h = refl
-written (suc c) ws vs bs e h = sym (ap (λ us. overBytes us bs) (h (suc-ne-zero c)) ∙ e)
+written (suc c) ws vs bs e h = sym (ap (λ us. over_bytes us bs) (h (suc-ne-zero c)) ∙ e)
 
 -- no words are stored
-pub over-empty : (ws bs : List ℕ) → length ws ≡ 0 → overBytes ws bs ≡ bs
+pub over-empty : (ws bs : List ℕ) → length ws ≡ 0 → over_bytes ws bs ≡ bs
 over-empty [] bs z = over_none bs
 over-empty (w ∷ ws) bs z = absurd (omega arith)
 
 -- n words read, of which the call leaves vs, written back where the answer is 0
-pub written-bytes : {m : ℕ} {bs ws vs : List ℕ} {n answer : ℕ} (f : Call m bs) → Bytes bs → Decoded m bs ws n → length vs ≡ length (take n ws) → vs ≡ f.leaves (take n ws) → answer ≡ f.cause (take n ws) → ifDone answer (overBytes (take n (vs ++ drop n ws)) bs) bs ≡ with_words bs f.leaves
+pub written-bytes : {m : ℕ} {bs ws vs : List ℕ} {n answer : ℕ} (f : Call m bs) → Bytes bs → Decoded m bs ws n → length vs ≡ length (take n ws) → vs ≡ f.leaves (take n ws) → answer ≡ f.cause (take n ws) → if_done answer (over_bytes (take n (vs ++ drop n ws)) bs) bs ≡ with_words bs f.leaves
 written-bytes {m} {bs} {ws} {vs} {n} {answer} f bytes d kept left answered =
     let read = d.read in
     let a : answer ≡ f.cause (words_in m bs) = answered ∙ ap f.cause read in
@@ -156,17 +156,17 @@ written-bytes {m} {bs} {ws} {vs} {n} {answer} f bytes d kept left answered =
 
 -- words stored in three parts, from the last to the first, are stored whole
 stored-whole : (ws bs cs ds es : List ℕ) (end : ℕ) → 1 ≤ end → end ≤ length ws → 4 * length ws ≤ length bs →
-    cs ≡ take (4 * end) bs ++ overBytes (drop end ws) (drop (4 * end) bs) →
-    ds ≡ take 4 cs ++ overBytes (take (end - 1) (drop 1 ws)) (drop 4 cs) →
+    cs ≡ take (4 * end) bs ++ over_bytes (drop end ws) (drop (4 * end) bs) →
+    ds ≡ take 4 cs ++ over_bytes (take (end - 1) (drop 1 ws)) (drop 4 cs) →
     es ≡ take 0 ds ++ bytes_of (get_or ws 0 0 ∷ []) ++ drop 4 ds →
-    es ≡ overBytes ws bs
-unfolding overBytes bytes_of
+    es ≡ over_bytes ws bs
+unfolding over_bytes bytes_of
 stored-whole [] bs cs ds es end one inside lent c d e = absurd (omega arith)
 stored-whole (w ∷ vs) bs cs ds es zero one inside lent c d e = absurd (omega arith)
 stored-whole (w ∷ vs) bs cs ds es (suc u) one inside lent c d e =
     let mid = take (suc u - 1) vs in
     let v : suc u - 1 ≡ u = omega arith in
-    let past = overBytes (drop u vs) (drop (4 * suc u) bs) in
+    let past = over_bytes (drop u vs) (drop (4 * suc u) bs) in
     let before : length (take (4 * suc u) bs) ≡ 4 * suc u = length-take-le (4 * suc u) bs (omega arith) in
     let four : length (take 4 cs) ≡ 4 = length-take-le 4 cs (rw (c, length-append (take (4 * suc u) bs) past, before) (omega arith)) in
     let m : length mid ≡ u = rw v (length-take-le u vs (omega arith)) in
@@ -187,28 +187,28 @@ stored-whole (w ∷ vs) bs cs ds es (suc u) one inside lent c d e =
 abbrev rest_of : {A : Type 0} → ℕ → List A → List A
 rest_of a xs = take (length xs - a) (drop a xs)
 
-abbrev putFrom : {A : Type 0} → ℕ → List A → List A → List A
-putFrom a xs ys = take a xs ++ (ys ++ drop (length xs - a) (drop a xs))
+abbrev put_from : {A : Type 0} → ℕ → List A → List A → List A
+put_from a xs ys = take a xs ++ (ys ++ drop (length xs - a) (drop a xs))
 
 rest-is : {A : Type 0} (a : ℕ) (xs : List A) → rest_of a xs ≡ drop a xs
 rest-is a xs = rw (← length-drop a xs) (take-length (drop a xs))
 
-put_is : {A : Type 0} (a : ℕ) (xs ys : List A) → putFrom a xs ys ≡ take a xs ++ ys
+put_is : {A : Type 0} (a : ℕ) (xs ys : List A) → put_from a xs ys ≡ take a xs ++ ys
 put_is a xs ys =
     ap (λ us. take a xs ++ (ys ++ us)) (rw (← length-drop a xs) (drop-length (drop a xs))) ∙ ap (λ us. take a xs ++ us) (append-nil ys)
 
 -- so are they in the parts that the code lends
 pub stored-parts : (ws bs hs ls : List ℕ) (end : ℕ) → 1 ≤ end → end ≤ length ws → 4 * length ws ≤ length bs →
-    hs ≡ overBytes (rest_of end ws) (rest_of (4 * end) bs) →
-    ls ≡ overBytes (take (end - 1) (drop 1 ws)) (rest_of 4 (putFrom (4 * end) bs hs)) →
-    bytes_of (get_or ws 0 0 ∷ []) ++ drop 4 (putFrom 4 (putFrom (4 * end) bs hs) ls) ≡ overBytes ws bs
+    hs ≡ over_bytes (rest_of end ws) (rest_of (4 * end) bs) →
+    ls ≡ over_bytes (take (end - 1) (drop 1 ws)) (rest_of 4 (put_from (4 * end) bs hs)) →
+    bytes_of (get_or ws 0 0 ∷ []) ++ drop 4 (put_from 4 (put_from (4 * end) bs hs) ls) ≡ over_bytes ws bs
 stored-parts ws bs hs ls end one inside lent h l =
-    let cs = putFrom (4 * end) bs hs in
-    stored-whole ws bs cs (putFrom 4 cs ls) _ end one inside lent
-    (put_is (4 * end) bs hs ∙ ap (λ us. take (4 * end) bs ++ us) (h ∙ ap₂ overBytes (rest-is end ws) (rest-is (4 * end) bs)))
-    (put_is 4 cs ls ∙ ap (λ us. take 4 cs ++ us) (l ∙ ap (overBytes (take (end - 1) (drop 1 ws))) (rest-is 4 cs)))
+    let cs = put_from (4 * end) bs hs in
+    stored-whole ws bs cs (put_from 4 cs ls) _ end one inside lent
+    (put_is (4 * end) bs hs ∙ ap (λ us. take (4 * end) bs ++ us) (h ∙ ap₂ over_bytes (rest-is end ws) (rest-is (4 * end) bs)))
+    (put_is 4 cs ls ∙ ap (λ us. take 4 cs ++ us) (l ∙ ap (over_bytes (take (end - 1) (drop 1 ws))) (rest-is 4 cs)))
     refl
 
-pub yes-byte : (b : Bool) → bool_byte b ≡ yesNo b
+pub yes-byte : (b : Bool) → bool_byte b ≡ yes_no b
 yes-byte true = refl
 yes-byte false = refl

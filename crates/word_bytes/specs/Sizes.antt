@@ -2,5 +2,5 @@
 use Rattle.std.specs.Prelude.{ℕ}
 
 -- the words of 768 entries and of one more
-abbrev pub wideWords : ℕ
-wideWords = 3848
+abbrev pub wide_words : ℕ
+wide_words = 3848

@@ -1,10 +1,10 @@
 // Internal: words out of bytes, little-endian, and back, for the C calls and the day file. A caller meets each `requires`.
 ghost use Rattle.std.specs.Prelude.{◌≡◌, ◌+◌, ◌*◌, ◌<◌, ◌≤◌, min, [], ◌∷◌, ◌++◌, length, take, drop};
-ghost use Rattle.rules.specs.Words.{values, countOf, bookWords, usedWith};
-ghost use Rattle.numbers.specs.Causes.{ifDone};
+ghost use Rattle.rules.specs.Words.{values, count_of, book_words, used_with};
+ghost use Rattle.numbers.specs.Causes.{if_done};
 ghost use Rattle.rules.specs.DayFile.{words_of};
-ghost use Rattle.word_bytes.specs.Bytes.{bytes_of, isWhole};
-ghost use Rattle.word_bytes.specs.Coding.{word_at, overBytes, countIn, neededFor, Decoded};
+ghost use Rattle.word_bytes.specs.Bytes.{bytes_of, is_whole};
+ghost use Rattle.word_bytes.specs.Coding.{word_at, over_bytes, count_in, needed_for, Decoded};
 
 use rules::bounds::MOST_ENTRIES;
 use rules::layout::{BOOK_WORDS, ENTRY_WORDS, HEAD_WORDS, KIND};
@@ -51,7 +51,7 @@ pub fn put_word(bytes: &mut [u8], at: usize, word: u32)
 // The bytes of words over the first bytes, which are as many or more.
 fn encode(words: &[u32], bytes: &mut [u8])
     requires { 4 * length words.now ≤ length bytes.old }
-    ensures { bytes.new ≡ overBytes words.now bytes.old }
+    ensures { bytes.new ≡ over_bytes words.now bytes.old }
 {
     let mut k = 0;
     while k < words.len() {
@@ -62,7 +62,7 @@ fn encode(words: &[u32], bytes: &mut [u8])
 
 // Whether the bytes make whole words.
 pub fn is_whole(bytes: &[u8]) -> bool
-    ensures { result ≡ isWhole bytes.now }
+    ensures { result ≡ is_whole bytes.now }
 {
     bytes.len() % 4 == 0
 }
@@ -76,7 +76,7 @@ fn lesser(a: usize, b: usize) -> usize
 // The number of entries that a book's first word gives.
 fn count_at(bytes: &[u8]) -> usize
     requires { 4 ≤ length bytes.now }
-    ensures { result ≡ countOf (words_of bytes.now) }
+    ensures { result ≡ count_of (words_of bytes.now) }
 {
     (word_at(bytes, 0) % KIND) as usize
 }
@@ -84,7 +84,7 @@ fn count_at(bytes: &[u8]) -> usize
 // How many words the entries of a book use with some places more, a full book's at most.
 fn used_with(count: usize, added: usize) -> usize
     requires { count < values }
-    ensures { result ≡ min bookWords (3 + 5 * (count + added)) }
+    ensures { result ≡ min book_words (3 + 5 * (count + added)) }
 {
     if MOST_ENTRIES < added {
         return BOOK_WORDS;
@@ -94,7 +94,7 @@ fn used_with(count: usize, added: usize) -> usize
 
 // The same by a book's bytes; those of less than a word have no entries.
 fn used(bytes: &[u8], added: usize) -> usize
-    ensures { result ≡ usedWith added (words_of bytes.now) }
+    ensures { result ≡ used_with added (words_of bytes.now) }
 {
     if bytes.len() < 4 {
         return used_with(0, added);
@@ -104,7 +104,7 @@ fn used(bytes: &[u8], added: usize) -> usize
 
 // How many of a book's first words are read: none where its bytes make no whole words.
 fn count_in(bytes: &[u8], most: usize) -> usize
-    ensures { result ≡ countIn most bytes.now }
+    ensures { result ≡ count_in most bytes.now }
 {
     if !is_whole(bytes) {
         return 0;
@@ -114,14 +114,14 @@ fn count_in(bytes: &[u8], most: usize) -> usize
 
 // How many words of a book's bytes a call needs that adds some entries at most.
 pub fn needed(bytes: &[u8], added: usize) -> usize
-    ensures { result ≡ neededFor added bytes.now }
+    ensures { result ≡ needed_for added bytes.now }
 {
     count_in(bytes, used(bytes, added))
 }
 
 // A book's first words, read into the first of lent words; their number.
 fn decode_first(bytes: &[u8], most: usize, words: &mut [u32]) -> usize
-    requires { countIn most bytes.now ≤ length words.old }
+    requires { count_in most bytes.now ≤ length words.old }
     ensures { Decoded most bytes.now words.new result }
 {
     let n = count_in(bytes, most);
@@ -131,8 +131,8 @@ fn decode_first(bytes: &[u8], most: usize, words: &mut [u32]) -> usize
 
 // Those that a call needs.
 pub fn decode(bytes: &[u8], added: usize, words: &mut [u32]) -> usize
-    requires { neededFor added bytes.now ≤ length words.old }
-    ensures { Decoded (usedWith added (words_of bytes.now)) bytes.now words.new result }
+    requires { needed_for added bytes.now ≤ length words.old }
+    ensures { Decoded (used_with added (words_of bytes.now)) bytes.now words.new result }
 {
     decode_first(bytes, used(bytes, added), words)
 }
@@ -150,7 +150,7 @@ fn end_of(words: usize, bytes: &[u8]) -> usize
 fn store(words: &[u32], bytes: &mut [u8])
     requires in_bounds { 1 ≤ length words.now }
     requires words_in_bounds { 4 * length words.now ≤ length bytes.old }
-    ensures { bytes.new ≡ overBytes words.now bytes.old }
+    ensures { bytes.new ≡ over_bytes words.now bytes.old }
 {
     let end = end_of(words.len(), bytes);
     let past = 4 * end;
@@ -162,7 +162,7 @@ fn store(words: &[u32], bytes: &mut [u8])
 // The words that a done call left go back to the book's bytes; a refused one writes nothing.
 pub fn write_back(answer: u32, words: &[u32], bytes: &mut [u8])
     requires { 4 * length words.now ≤ length bytes.old }
-    ensures { bytes.new ≡ ifDone answer (overBytes words.now bytes.old) bytes.old }
+    ensures { bytes.new ≡ if_done answer (over_bytes words.now bytes.old) bytes.old }
 {
     if answer != 0 {
         return;

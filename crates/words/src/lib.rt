@@ -1,8 +1,8 @@
 // Internal: the words of a book, for the crates above it. A caller meets each `requires`.
 ghost use Rattle.std.specs.Prelude.{◌≡◌, true, ◌+◌, ◌*◌, ◌<◌, ◌≤◌, length, drop};
-ghost use Rattle.rules.specs.Entry.{keyIn, entryOf, key};
-ghost use Rattle.rules.specs.Words.{decode, entryOk, entriesOk, roomIn, countOf, coefficientOf, toleranceOf, isBook, entries};
-ghost use Rattle.rules.specs.Book.{isMarkOf, isClosed, shutTo, place_of};
+ghost use Rattle.rules.specs.Entry.{key_in, entry_of, key};
+ghost use Rattle.rules.specs.Words.{decode, entry_ok, entries_ok, room_in, count_of, coefficient_of, tolerance_of, is_book, entries};
+ghost use Rattle.rules.specs.Book.{is_mark_of, is_closed, shut_to, place_of};
 ghost use Rattle.words.specs.Parts.{kept};
 
 use rules::bounds::MOST_ENTRIES;
@@ -12,7 +12,7 @@ use rules::{Entry, Key};
 
 pub fn entry_ok(book: &[u32], at: usize) -> bool
     requires { at + 5 ≤ length book.now }
-    ensures { result ≡ entryOk (drop at book.now) }
+    ensures { result ≡ entry_ok (drop at book.now) }
 {
     let party = book[at];
     let day = book[at + 1];
@@ -25,7 +25,7 @@ pub fn entry_ok(book: &[u32], at: usize) -> bool
 // Each entry is checked once, where it lies.
 pub fn entries_ok(book: &[u32], count: usize) -> bool
     requires { 3 + 5 * count ≤ length book.now }
-    ensures { result ≡ entriesOk count (drop 3 book.now) }
+    ensures { result ≡ entries_ok count (drop 3 book.now) }
 {
     let mut i = 0;
     while i < count {
@@ -39,7 +39,7 @@ pub fn entries_ok(book: &[u32], count: usize) -> bool
 
 // How many entries a slice of this length has room for.
 pub fn room(lent: usize) -> usize
-    ensures { result ≡ roomIn lent }
+    ensures { result ≡ room_in lent }
 {
     if lent < HEAD_WORDS {
         return 0;
@@ -55,21 +55,21 @@ pub fn room(lent: usize) -> usize
 // The three words before the entries.
 pub fn count_of(book: &[u32]) -> u32
     requires { 3 ≤ length book.now }
-    ensures { result ≡ countOf book.now }
+    ensures { result ≡ count_of book.now }
 {
     book[0] % KIND
 }
 
 pub fn coefficient_of(book: &[u32]) -> u32
     requires { 3 ≤ length book.now }
-    ensures { result ≡ coefficientOf book.now }
+    ensures { result ≡ coefficient_of book.now }
 {
     book[1] % KIND
 }
 
 pub fn tolerance_of(book: &[u32]) -> u32
     requires { 3 ≤ length book.now }
-    ensures { result ≡ toleranceOf book.now }
+    ensures { result ≡ tolerance_of book.now }
 {
     book[2] % KIND
 }
@@ -120,14 +120,14 @@ pub fn amount_at(book: &[u32], at: usize) -> u64
 // A mark of a day, and a day with a mark (01, 'Control of a day').
 pub fn is_mark_of(book: &[u32], at: usize, day: u32) -> bool
     requires { at + 5 ≤ length book.now }
-    ensures { result ≡ isMarkOf day (decode (drop at book.now)) }
+    ensures { result ≡ is_mark_of day (decode (drop at book.now)) }
 {
     (type_at(book, at) == MARK) & (day_at(book, at) == day)
 }
 
 pub fn is_closed(book: &[u32], day: u32) -> bool
-    requires { isBook book.now ≡ true }
-    ensures { result ≡ isClosed day (entries book.now) }
+    requires { is_book book.now ≡ true }
+    ensures { result ≡ is_closed day (entries book.now) }
 {
     let count = (book[0] % KIND) as usize;
     let mut i = 0;
@@ -142,8 +142,8 @@ pub fn is_closed(book: &[u32], day: u32) -> bool
 
 // Whether the day is closed to an entry. It is looked up for a bilateral sale only.
 pub fn shut_to(book: &[u32], key: Key) -> bool
-    requires { isBook book.now ≡ true }
-    ensures { result ≡ shutTo (keyIn key) (entries book.now) }
+    requires { is_book book.now ≡ true }
+    ensures { result ≡ shut_to (key_in key) (entries book.now) }
 {
     if !entry_checks::is_bilateral(key) {
         return false;
@@ -154,7 +154,7 @@ pub fn shut_to(book: &[u32], key: Key) -> bool
 // The entry at a place.
 pub fn read_at(book: &[u32], at: usize) -> Entry
     requires { at + 5 ≤ length book.now }
-    ensures { result ≡ entryOf (decode (drop at book.now)) }
+    ensures { result ≡ entry_of (decode (drop at book.now)) }
 {
     entry_words::entry_of(
         book[at],
@@ -167,7 +167,7 @@ pub fn read_at(book: &[u32], at: usize) -> Entry
 
 // Why the entry at a place cannot be withdrawn, or 0.
 pub fn kept_at(book: &[u32], at: usize) -> u32
-    requires book_value { isBook book.now ≡ true }
+    requires book_value { is_book book.now ≡ true }
     requires at_in_bounds { at + 5 ≤ length book.now }
     ensures { result ≡ kept (decode (drop at book.now)) (entries book.now) }
 {

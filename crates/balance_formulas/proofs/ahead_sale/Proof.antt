@@ -2,7 +2,7 @@
 use native.Mathlib.Omega.{arith}
 use borrow.Author.Rules.{rules}
 use Rattle.numbers.specs.Sums.{total}
-use Rattle.rules.specs.Balance.{saleSide}
+use Rattle.rules.specs.Balance.{sale_side}
 use Rattle.balance_formulas.proofs.BalanceLaws.{each-sum}
 use Rattle.balance_formulas.proofs.ahead_sale.Statement.{statement}
 use Rattle.balance_formulas.proofs.ahead_sale.Tie as tie
@@ -29,7 +29,7 @@ add-result-3 : tie.Need-overflow-add-result-3
 add-result-3 c = let e = each-sum c.before.args.t c.before.requires in omega arith
 
 returns : tie.Need-returns
-unfolding saleSide total
+unfolding sale_side total
 returns c = omega arith
 
 pub ahead-sale-spec : {M : Type 1} → statement M

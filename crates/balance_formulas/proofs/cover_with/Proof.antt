@@ -3,7 +3,7 @@ use native.Mathlib.Omega.{arith}
 use borrow.Author.Rules.{rules}
 use Rattle.numbers.specs.Sums.{total}
 use Rattle.rules.specs.Balance.{acquired}
-use Rattle.balance_formulas.specs.Sides.{coverWith}
+use Rattle.balance_formulas.specs.Sides.{cover_with}
 use Rattle.balance_formulas.proofs.BalanceLaws.{EachSum, each-sum}
 use Rattle.balance_formulas.proofs.cover_with.Statement.{statement}
 use Rattle.balance_formulas.proofs.cover_with.Tie as tie
@@ -54,7 +54,7 @@ add-result-6 : tie.Need-overflow-add-result-6
 add-result-6 c = let e = sums c.before.before in omega arith
 
 returns : tie.Need-returns
-unfolding coverWith acquired total
+unfolding cover_with acquired total
 returns c = omega arith
 
 pub cover-with-spec : {M : Type 1} → statement M

@@ -4,7 +4,7 @@ use native.Mathlib.Omega.{arith}
 use mir.Syntax.{w64}
 use mir.ValLaws.{to_z-of_z}
 use borrow.Author.Rules.{rules}
-use Rattle.rules.specs.Balance.{dayAhead}
+use Rattle.rules.specs.Balance.{day_ahead}
 use Rattle.balance_formulas.proofs.BalanceLaws.{each-sum, sale-within, cover-within, cover-ahead, balance-is}
 use Rattle.balance_formulas.proofs.day_ahead_of.Statement.{statement}
 use Rattle.balance_formulas.proofs.day_ahead_of.Tie as tie
@@ -31,7 +31,7 @@ returns : tie.Need-returns
 returns c =
     let a = c.before.before.before.before.args in
     to_z-of_z w64 c.balanced.result (record { sfits = c.balanced.type-inv })
-    ∙ balance-is dayAhead a.coefficient a.tolerance a.t a.bought c.before.before.ahead-sale.ensures (c.before.cover-with.ensures ∙ sym (cover-ahead a.t a.bought)) c.balanced.ensures
+    ∙ balance-is day_ahead a.coefficient a.tolerance a.t a.bought c.before.before.ahead-sale.ensures (c.before.cover-with.ensures ∙ sym (cover-ahead a.t a.bought)) c.balanced.ensures
 
 pub day-ahead-of-spec : {M : Type 1} → statement M
 day-ahead-of-spec =

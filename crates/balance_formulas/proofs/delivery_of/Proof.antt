@@ -6,8 +6,8 @@ use mir.Syntax.{w64}
 use mir.ValLaws.{to_z-of_z}
 use borrow.Author.Rules.{rules}
 use Rattle.rules.specs.Balance.{delivery}
-use Rattle.balance_formulas.specs.Bounded.{mostSum}
-use Rattle.balance_formulas.specs.Sides.{coverWith}
+use Rattle.balance_formulas.specs.Bounded.{most_sum}
+use Rattle.balance_formulas.specs.Sides.{cover_with}
 use Rattle.balance_formulas.proofs.BalanceLaws.{EachSum, each-sum, sale-within, cover-within, sale-delivery, cover-delivery, balance-is}
 use Rattle.balance_formulas.proofs.delivery_of.Statement.{statement}
 use Rattle.balance_formulas.proofs.delivery_of.Tie as tie
@@ -19,7 +19,7 @@ sums s = each-sum s.args.t s.requires.sums
 abbrev start : tie.After-cover-with → tie.Start
 start c = c.before.before.before.before
 
-covered : (c : tie.After-cover-with) → c.cover-with.result ≤ 8 * mostSum
+covered : (c : tie.After-cover-with) → c.cover-with.result ≤ 8 * most_sum
 covered c =
     let s = start c in
     let e = sums s in
@@ -83,7 +83,7 @@ returns c =
     let b = c.before in
     let a = (start b).args in
     to_z-of_z w64 c.balanced.result (record { sfits = c.balanced.type-inv })
-    ∙ balance-is delivery a.coefficient a.tolerance a.t a.bought (omega (arith, sale-delivery a.t)) (omega (arith, cover-delivery a.t a.bought, ap (λ x. coverWith a.t x a.bought) b.before.raised.ensures)) c.balanced.ensures
+    ∙ balance-is delivery a.coefficient a.tolerance a.t a.bought (omega (arith, sale-delivery a.t)) (omega (arith, cover-delivery a.t a.bought, ap (λ x. cover_with a.t x a.bought) b.before.raised.ensures)) c.balanced.ensures
 
 pub delivery-of-spec : {M : Type 1} → statement M
 delivery-of-spec =

@@ -5,9 +5,9 @@ use mathlib.Core.List.{List}
 use Prim.Native.Nat.{ℕ, ◌<◌}
 use borrow.Author.Tests.{lt-ltb, le-ltb}
 use borrow.Author.Rules.{rules}
-use Rattle.rules.specs.Entry.{recordIn}
-use Rattle.rules.specs.Words.{isBook, countOf}
-use Rattle.rules.specs.Book.{read_of, readAnswer, readCause, entry_at}
+use Rattle.rules.specs.Entry.{record_in}
+use Rattle.rules.specs.Words.{is_book, count_of}
+use Rattle.rules.specs.Book.{read_of, read_answer, read_cause, entry_at}
 use Rattle.entry_checks.proofs.Ladder.{passed, failed}
 use Rattle.words.proofs.BookCode.{book-long, book-entry}
 use Rattle.book.proofs.entry.Statement.{statement}
@@ -20,7 +20,7 @@ no-read-requires : tie.Need-no-read-requires
 no-read-requires c κs = search rules
 
 returns : tie.Need-returns
-unfolding readAnswer readCause
+unfolding read_answer read_cause
 returns c = rw (failed c.before.before.is-book.ensures c.before.if1.true) c.no_read.ensures
 
 count-of-requires : tie.Need-count-of-requires
@@ -37,15 +37,15 @@ module _ (b : tie.Else1) where
   abbrev number : ℕ
   number = b.before.before.before.args.number
 
-  is_one : isBook ws ≡ true
+  is_one : is_book ws ≡ true
   is_one = passed b.before.is-book.ensures b.if1.left
 
 returns-2 : tie.Need-returns-2
-unfolding readAnswer readCause
+unfolding read_answer read_cause
 returns-2 c =
     let d = c.before in
     let b = d.before.before in
-    rw (is_one b, le-ltb (number b) (countOf (ws b)) (rw d.before.count_of.ensures at d.if2.true)) c.no-read2.ensures
+    rw (is_one b, le-ltb (number b) (count_of (ws b)) (rw d.before.count_of.ensures at d.if2.true)) c.no-read2.ensures
 
 place-of-requires : tie.Need-place-of-requires
 place-of-requires c κs = search rules
@@ -55,7 +55,7 @@ module _ (d : tie.Else2) where
   abbrev book : tie.Else1
   book = d.before.before
 
-  is-entry : number book < countOf (ws book)
+  is-entry : number book < count_of (ws book)
   is-entry = rw d.before.count_of.ensures at d.if2.left
 
 read-at-requires : tie.Need-read-at-requires
@@ -68,13 +68,13 @@ read-of-requires : tie.Need-read-of-requires
 read-of-requires c κs = search rules
 
 returns-3 : tie.Need-returns-3
-unfolding readAnswer readCause entry_at
+unfolding read_answer read_cause entry_at
 returns-3 c =
     let r = c.before in
     let p = r.before in
     let d = p.before in
     let b = book d in
-    rw (is_one b, lt-ltb (number b) (countOf (ws b)) (is-entry d), ← p.place_of.ensures) (c.Read-of.ensures ∙ ap (λ e. read_of (recordIn e)) r.read_at.ensures)
+    rw (is_one b, lt-ltb (number b) (count_of (ws b)) (is-entry d), ← p.place_of.ensures) (c.Read-of.ensures ∙ ap (λ e. read_of (record_in e)) r.read_at.ensures)
 
 pub entry_spec : {M : Type 1} → statement M
 entry_spec =

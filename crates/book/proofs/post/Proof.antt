@@ -2,7 +2,7 @@
 use mathlib.Core.List.{List}
 use Prim.Native.Nat.{ℕ}
 use borrow.Author.Rules.{rules}
-use Rattle.rules.specs.Entry.{Key, keyIn}
+use Rattle.rules.specs.Entry.{Key, key_in}
 use Rattle.book.proofs.Calls.{post-refuses, post-long, post-room, post-legal, post-answers, post-leaves}
 use Rattle.book.proofs.post.Statement.{statement}
 use Rattle.book.proofs.post.Tie as tie
@@ -13,7 +13,7 @@ module _ (f : tie.After-post-cause) where
   ws = f.before.before.before.args.book.now
 
   abbrev posting : Key
-  posting = keyIn f.before.before.before.args.key
+  posting = key_in f.before.before.before.args.key
 
   abbrev amount : ℕ
   amount = f.before.before.before.args.amount

@@ -8,9 +8,9 @@ use borrow.Author.Tests.{lt-ltb, le-ltb}
 use borrow.Author.Rules.{rules}
 use Rattle.numbers.proofs.CauseLaws.{else-stop}
 use Rattle.rules.specs.Entry.{Key, fault}
-use Rattle.rules.specs.Words.{isBook, entries, countOf, roomIn}
-use Rattle.rules.specs.Book.{shutTo}
-use Rattle.rules.specs.Calls.{post, causeOf}
+use Rattle.rules.specs.Words.{is_book, entries, count_of, room_in}
+use Rattle.rules.specs.Book.{shut_to}
+use Rattle.rules.specs.Calls.{post, cause_of}
 use Rattle.rules.proofs.CallLaws.{post-cause}
 use Rattle.entry_checks.proofs.Ladder.{passed, failed, told, told-full, told-room}
 use Rattle.words.proofs.BookCode.{book-long}
@@ -19,20 +19,20 @@ use Rattle.book.proofs.post_cause.Tie as tie
 
 -- why it comes back
 module _ (ws : List ℕ) (k : Key) (a : ℕ) where
-  cause-book : isBook ws ≡ false → 1 ≡ causeOf ws (post k a)
+  cause-book : is_book ws ≡ false → 1 ≡ cause_of ws (post k a)
   cause-book b = rw (post-cause, b)
 
-  cause-fault : {f : ℕ} → isBook ws ≡ true → f ≡ fault k a → (f ≡ 0 → ⊥) → f ≡ causeOf ws (post k a)
+  cause-fault : {f : ℕ} → is_book ws ≡ true → f ≡ fault k a → (f ≡ 0 → ⊥) → f ≡ cause_of ws (post k a)
   cause-fault b e n = rw (post-cause, b, ← e) (sym (else-stop _ _ n))
 
-  cause-shut : isBook ws ≡ true → fault k a ≡ 0 → shutTo k (entries ws) ≡ true → 8 ≡ causeOf ws (post k a)
+  cause-shut : is_book ws ≡ true → fault k a ≡ 0 → shut_to k (entries ws) ≡ true → 8 ≡ cause_of ws (post k a)
   cause-shut b f s = rw (post-cause, b, f, s)
 
-  cause-room : isBook ws ≡ true → fault k a ≡ 0 → shutTo k (entries ws) ≡ false → roomIn (length ws) ≤ countOf ws → 9 ≡ causeOf ws (post k a)
-  cause-room b f s h = rw (post-cause, b, f, s, le-ltb (countOf ws) (roomIn (length ws)) h)
+  cause-room : is_book ws ≡ true → fault k a ≡ 0 → shut_to k (entries ws) ≡ false → room_in (length ws) ≤ count_of ws → 9 ≡ cause_of ws (post k a)
+  cause-room b f s h = rw (post-cause, b, f, s, le-ltb (count_of ws) (room_in (length ws)) h)
 
-  cause-none : isBook ws ≡ true → fault k a ≡ 0 → shutTo k (entries ws) ≡ false → countOf ws < roomIn (length ws) → 0 ≡ causeOf ws (post k a)
-  cause-none b f s h = rw (post-cause, b, f, s, lt-ltb (countOf ws) (roomIn (length ws)) h)
+  cause-none : is_book ws ≡ true → fault k a ≡ 0 → shut_to k (entries ws) ≡ false → count_of ws < room_in (length ws) → 0 ≡ cause_of ws (post k a)
+  cause-none b f s h = rw (post-cause, b, f, s, lt-ltb (count_of ws) (room_in (length ws)) h)
 
 is-book-requires : tie.Need-is-book-requires
 is-book-requires c κs = search rules

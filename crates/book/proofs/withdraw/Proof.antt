@@ -1,6 +1,6 @@
 -- `book::withdraw` meets its contract. Assumes nothing.
 use mathlib.Core.Path.{◌≡◌}
-use Rattle.rules.specs.Calls.{causeOf, withdraw}
+use Rattle.rules.specs.Calls.{cause_of, withdraw}
 use borrow.Author.Rules.{rules}
 use Rattle.book.proofs.Calls.{withdraw-refuses, withdraw-place, withdraw-leaves}
 use Rattle.book.proofs.withdraw.Statement.{statement}
@@ -10,7 +10,7 @@ use Rattle.book.proofs.withdraw.Tie as tie
 by-cause : {A : Type 0} (e : tie.Else1) →
     let f = e.before in
     let a = f.before.before.before.args in
-    (f.withdraw-cause.result ≡ causeOf a.book.now (withdraw a.number) → f.withdraw-cause.result ≡ 0 → A) → A
+    (f.withdraw-cause.result ≡ cause_of a.book.now (withdraw a.number) → f.withdraw-cause.result ≡ 0 → A) → A
 by-cause e law = law e.before.withdraw-cause.ensures e.if1.false
 
 withdraw-cause-requires : tie.Need-withdraw-cause-requires

@@ -2,7 +2,7 @@
 use Prim.Native.Nat.{◌<◌}
 use borrow.Author.Tests.{lt-ltb, le-ltb}
 use borrow.Author.Rules.{rules}
-use Rattle.rules.specs.Words.{countOf}
+use Rattle.rules.specs.Words.{count_of}
 use Rattle.rules.specs.Book.{entry_at}
 use Rattle.rules.proofs.CallLaws.{withdraw-cause}
 use Rattle.words.specs.Parts.{kept}
@@ -24,7 +24,7 @@ returns-2 : tie.Need-returns-2
 returns-2 c =
     let b = c.before.before in
     let a = b.before.before.before.args in
-    rw (withdraw-cause, passed b.before.is-book.ensures b.if1.false, le-ltb a.number (countOf a.book.now) (rw c.before.count_of.ensures at c.if2.true))
+    rw (withdraw-cause, passed b.before.is-book.ensures b.if1.false, le-ltb a.number (count_of a.book.now) (rw c.before.count_of.ensures at c.if2.true))
 
 place-of-requires : tie.Need-place-of-requires
 place-of-requires c κs = search rules
@@ -35,7 +35,7 @@ kept-at-requires c κs =
     let b = d.before.before in
     let a = b.before.before.before.args in
     let o = passed b.before.is-book.ensures b.if1.false in
-    let h : a.number < countOf a.book.now = rw d.before.count_of.ensures at d.if2.false in
+    let h : a.number < count_of a.book.now = rw d.before.count_of.ensures at d.if2.false in
     (o, rw c.place_of.ensures (book-entry a.book.now o a.number h).within)
 
 returns-3 : tie.Need-returns-3
@@ -45,8 +45,8 @@ returns-3 c =
     let b = d.before.before in
     let a = b.before.before.before.args in
     let o = passed b.before.is-book.ensures b.if1.false in
-    let h : a.number < countOf a.book.now = rw d.before.count_of.ensures at d.if2.false in
-    rw (withdraw-cause, o, lt-ltb a.number (countOf a.book.now) h, ← c.before.place_of.ensures) c.kept_at.ensures
+    let h : a.number < count_of a.book.now = rw d.before.count_of.ensures at d.if2.false in
+    rw (withdraw-cause, o, lt-ltb a.number (count_of a.book.now) h, ← c.before.place_of.ensures) c.kept_at.ensures
 
 pub withdraw-cause-spec : {M : Type 1} → statement M
 withdraw-cause-spec =

@@ -2,7 +2,7 @@
 use borrow.Author.Rules.{rules}
 use Prim.Native.Nat.{ℕ, ◌<◌, ◌-◌}
 use lib.ListN.{length}
-use Rattle.word_bytes.specs.Coding.{neededFor}
+use Rattle.word_bytes.specs.Coding.{needed_for}
 use Rattle.word_bytes.proofs.CodingLaws.{needed-most}
 use borrow.Fn.Kinds.{In}
 use borrow.Fn.PlainCycle.{Measures, is, falls, and}
@@ -17,7 +17,7 @@ use Rattle.byte_changes.proofs.+change_in.{statement}
 use Rattle.byte_changes.proofs.+change_in.Tie.{close}
 
 abbrev μ-change-in : Measures 2 change-in-kinds.ps ℕ
-μ-change-in κs a = neededFor 1 a.1.0.now - length a.0.now
+μ-change-in κs a = needed_for 1 a.1.0.now - length a.0.now
 
 abbrev change-in-at : ℕ → In 2 change-in-kinds.ps
 change-in-at t = and 2 change-in-kinds.ps (is 2 change-in-kinds.ps μ-change-in t) change-in.Pre

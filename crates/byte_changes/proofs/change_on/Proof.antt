@@ -3,7 +3,7 @@ use mathlib.Core.Path.{◌∙◌, ap}
 use borrow.Author.Rules.{rules}
 use Rattle.word_bytes.proofs.CodingLaws.{parts}
 use Rattle.word_bytes.proofs.CallLaws.{on-change, change-bytes}
-use Rattle.byte_changes.specs.Requests.{changeOf, done_of}
+use Rattle.byte_changes.specs.Requests.{change_of, done_of}
 use Rattle.byte_changes.proofs.ActLaws.{adds_one}
 use Rattle.byte_changes.proofs.change_on.Statement.{statement}
 use Rattle.byte_changes.proofs.change_on.Tie as tie
@@ -44,9 +44,9 @@ returns c =
     let request = lent.before.before.args.request in
     let d = decoded.decode.ensures in
     let a = acted.act.ensures in (
-      a.0 ∙ on-change 1 d (changeOf request) (adds_one request) done_of,
+      a.0 ∙ on-change 1 d (change_of request) (adds_one request) done_of,
       written.write-back.ensures
-          ∙ change-bytes 1 d (changeOf request) (adds_one request) (λ i. (lent.slice-known2.given i).fits) acted.act.auto.0 a.1 (ap (λ r. r.answer) a.0),
+          ∙ change-bytes 1 d (change_of request) (adds_one request) (λ i. (lent.slice-known2.given i).fits) acted.act.auto.0 a.1 (ap (λ r. r.answer) a.0),
     )
 
 pub change-on-spec : {M : Type 1} → statement M

@@ -1,6 +1,6 @@
 -- `byte_changes::withdrawn` meets its contract. Assumes nothing.
 use borrow.Author.Rules.{rules}
-use Rattle.byte_changes.specs.Requests.{changeOf}
+use Rattle.byte_changes.specs.Requests.{change_of}
 use Rattle.byte_changes.proofs.ActLaws.{done-withdraw}
 use Rattle.byte_changes.proofs.withdrawn.Statement.{statement}
 use Rattle.byte_changes.proofs.withdrawn.Tie as tie
@@ -12,7 +12,7 @@ same_length : tie.Need-same-length
 same_length c = search rules
 
 returns : tie.Need-returns
-unfolding changeOf
+unfolding change_of
 returns c =
     let r = c.before.before in
     let s = r.before.before.before in

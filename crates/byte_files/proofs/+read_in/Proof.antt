@@ -2,7 +2,7 @@
 use borrow.Author.Rules.{rules}
 use Prim.Native.Nat.{ℕ, ◌<◌, ◌-◌, ◌/◌}
 use lib.ListN.{length}
-use Rattle.word_bytes.specs.Coding.{neededFor}
+use Rattle.word_bytes.specs.Coding.{needed_for}
 use Rattle.word_bytes.proofs.CodingLaws.{needed-most}
 use borrow.Fn.Kinds.{In}
 use borrow.Fn.PlainCycle.{Measures, is, falls, and}
@@ -17,7 +17,7 @@ use Rattle.byte_files.proofs.+read_in.{statement}
 use Rattle.byte_files.proofs.+read_in.Tie.{close}
 
 abbrev μ-read-in : Measures 3 read-in-kinds.ps ℕ
-μ-read-in κs a = neededFor (length a.1.1.0.now / 12) a.1.0.now - length a.0.now
+μ-read-in κs a = needed_for (length a.1.1.0.now / 12) a.1.0.now - length a.0.now
 
 abbrev read-in-at : ℕ → In 3 read-in-kinds.ps
 read-in-at t = and 3 read-in-kinds.ps (is 3 read-in-kinds.ps μ-read-in t) read-in.Pre

@@ -8,10 +8,10 @@ use lib.ListN.{length}
 use borrow.Author.Rules.{rules}
 use borrow.Author.Tests.{eqb-true}
 use Rattle.numbers.proofs.TestLaws.{and_split}
-use Rattle.rules.specs.Book.{openCause}
+use Rattle.rules.specs.Book.{open_cause}
 use Rattle.rules.proofs.BookLaws.{OpenLimits, open-limits}
 use Rattle.entry_checks.proofs.Ladder.{passed, failed}
-use Rattle.word_bytes.specs.Bytes.{isWhole}
+use Rattle.word_bytes.specs.Bytes.{is_whole}
 use Rattle.word_bytes.proofs.BytesLaws.{Bytes}
 use Rattle.byte_openings.proofs.OpenLaws.{open-odd, open_none, open-put}
 use Rattle.byte_openings.proofs.open.Statement.{statement}
@@ -27,13 +27,13 @@ module _ (t : tie.After-can-open) where
 
   both :
       let a = start.args in
-      t.before.is_whole.result && t.can-open.result ≡ isWhole a.book.now && eqb (openCause (length a.book.now / 4) a.coefficient a.tolerance) 0
+      t.before.is_whole.result && t.can-open.result ≡ is_whole a.book.now && eqb (open_cause (length a.book.now / 4) a.coefficient a.tolerance) 0
   both = ap₂ ◌&&◌ t.before.is_whole.ensures t.can-open.ensures
 
 -- and hold: whole words, and no cause
 clear : (e : tie.Else1) →
     let a = (start e.before).args in
-    (isWhole a.book.now ≡ true) × (openCause (length a.book.now / 4) a.coefficient a.tolerance ≡ 0)
+    (is_whole a.book.now ≡ true) × (open_cause (length a.book.now / 4) a.coefficient a.tolerance ≡ 0)
 clear e =
     let s = and_split _ _ (passed (both e.before) e.if1.false) in
     (s.0, eqb-true _ _ s.1)

@@ -2,7 +2,7 @@
 use borrow.Author.Rules.{rules}
 use Prim.Native.Nat.{ℕ, ◌<◌, ◌-◌}
 use lib.ListN.{length}
-use Rattle.word_bytes.specs.Coding.{neededFor}
+use Rattle.word_bytes.specs.Coding.{needed_for}
 use Rattle.word_bytes.proofs.CodingLaws.{needed-most}
 use borrow.Fn.Kinds.{In}
 use borrow.Fn.PlainCycle.{Measures, is, falls, and}
@@ -17,7 +17,7 @@ use Rattle.byte_questions.proofs.+ask_in.{statement}
 use Rattle.byte_questions.proofs.+ask_in.Tie.{close}
 
 abbrev μ-ask-in : Measures 2 ask-in-kinds.ps ℕ
-μ-ask-in κs a = neededFor 0 a.1.0.now - length a.0.now
+μ-ask-in κs a = needed_for 0 a.1.0.now - length a.0.now
 
 abbrev ask-in-at : ℕ → In 2 ask-in-kinds.ps
 ask-in-at t = and 2 ask-in-kinds.ps (is 2 ask-in-kinds.ps μ-ask-in t) ask-in.Pre

@@ -4,24 +4,24 @@ use mathlib.Core.Path.{◌≡◌, sym}
 use Prim.Native.Nat.{ℕ, suc, ◌+◌, ◌-◌, ◌/◌, ◌≤◌, ◌<◌}
 use native.Mathlib.Omega.{arith}
 use lib.ListN.{get_or}
-use Rattle.calendar.specs.Calendar.{months, monthStart}
+use Rattle.calendar.specs.Calendar.{months, month_start}
 use Rattle.calendar.proofs.MonthLaws.{start-zero, start-mono, start-end, month-unique, month-past}
 use Rattle.calendar.proofs.MonthTable.{table, table_at}
 use Rattle.calendar.proofs.month_of.Statement.{statement}
 use Rattle.calendar.proofs.month_of.Tie as tie
 
 -- what a test of a table entry says of the month's start
-entry-from : (k day : ℕ) → k ≤ months → get_or table k 0 ≤ day → monthStart k ≤ day
+entry-from : (k day : ℕ) → k ≤ months → get_or table k 0 ≤ day → month_start k ≤ day
 entry-from k day h l = omega (arith, table_at k h)
 
-entry_past : (k day : ℕ) → k ≤ months → day < get_or table k 0 → day < monthStart k
+entry_past : (k day : ℕ) → k ≤ months → day < get_or table k 0 → day < month_start k
 entry_past k day h l = omega (arith, table_at k h)
 
 entry-fits : (k : ℕ) → k ≤ months → get_or table k 0 < 4294967296
 entry-fits k h = omega (arith, table_at k h, start-mono k months h, start-end)
 
 abbrev invariant-loop : tie.invariant-loop
-invariant-loop day starts low₀ high₀ low high = (low < high) × (high ≤ months) × (monthStart low ≤ day) × (day < monthStart high)
+invariant-loop day starts low₀ high₀ low high = (low < high) × (high ≤ months) × (month_start low ≤ day) × (day < month_start high)
 
 abbrev decreases-loop : tie.decreases-loop
 decreases-loop day starts low₀ high₀ low high = high - low

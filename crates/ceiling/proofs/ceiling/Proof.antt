@@ -4,7 +4,7 @@ use mathlib.Core.Bool.{Bool, true, false, cond}
 use borrow.Author.Rules.{rules}
 use borrow.Author.Tests.{not-true, not-false}
 use mir.Val.{bool_byte}
-use Rattle.rules.specs.Ceiling.{ceilingCause, ceilingAnswer}
+use Rattle.rules.specs.Ceiling.{ceiling_cause, ceiling_answer}
 use Rattle.ceiling.proofs.ceiling.Statement.{statement}
 use Rattle.ceiling.proofs.ceiling.Tie as tie
 
@@ -17,7 +17,7 @@ in-range-requires : tie.Need-in-range-requires
 in-range-requires c κs = search rules
 
 returns : tie.Need-returns
-unfolding ceilingAnswer ceilingCause
+unfolding ceiling_answer ceiling_cause
 returns c = rw (sym c.before.in-range.ensures ∙ not-true _ c.if1.true)
 
 is-recordable-requires : tie.Need-is-recordable-requires
@@ -27,7 +27,7 @@ cast-t7 : tie.Need-overflow-cast-t7
 cast-t7 c = search rules
 
 returns-2 : tie.Need-returns-2
-unfolding ceilingAnswer ceilingCause
+unfolding ceiling_answer ceiling_cause
 returns-2 c =
     rw (sym c.before.before.in-range.ensures ∙ not-false _ c.before.if1.false, sym c.is-recordable.ensures, byte-cond)
 

@@ -1,6 +1,6 @@
 -- `ceiling::is_recordable` meets its contract. Assumes nothing.
 use borrow.Author.Rules.{rules}
-use Rattle.rules.specs.Ceiling.{isRecordable}
+use Rattle.rules.specs.Ceiling.{is_recordable}
 use Rattle.ceiling.proofs.is_recordable.Statement.{statement}
 use Rattle.ceiling.proofs.is_recordable.Tie as tie
 
@@ -23,7 +23,7 @@ add-result : tie.Need-overflow-add-result
 add-result c = search rules
 
 returns : tie.Need-returns
-unfolding isRecordable
+unfolding is_recordable
 returns c = rw c.larger.ensures
 
 pub is-recordable-spec : {M : Type 1} → statement M

@@ -6,9 +6,9 @@ use native.Mathlib.Nat.{sub-zero}
 use native.Mathlib.Omega.{arith}
 use lib.ListN.{length, get_or, drop}
 use Rattle.numbers.specs.Tests.{any}
-use Rattle.rules.specs.Entry.{dayPlaces}
-use Rattle.rules.specs.Words.{decode, entries, readEntries}
-use Rattle.rules.specs.Book.{isMarkOf, isClosed}
+use Rattle.rules.specs.Entry.{day_places}
+use Rattle.rules.specs.Words.{decode, entries, read_entries}
+use Rattle.rules.specs.Book.{is_mark_of, is_closed}
 use Rattle.words.proofs.BookCode.{book-long, book-entry, closed-from}
 use Rattle.file_walk.proofs.WalkLaws.{table_step}
 use borrow.Author.Rules.{rules}
@@ -18,7 +18,7 @@ use Rattle.closed_days.proofs.close_days.Tie as tie
 abbrev invariant-loop : tie.invariant-loop
 invariant-loop book closed₀ count i₀ closed i =
     (i ≤ count) × (length closed ≡ length closed₀)
-    × ((d : ℕ) → d < dayPlaces → get_or closed₀ d false || isClosed d (entries book) ≡ get_or closed d false || isClosed d (readEntries (count - i) (drop (3 + 5 * i) book)))
+    × ((d : ℕ) → d < day_places → get_or closed₀ d false || is_closed d (entries book) ≡ get_or closed d false || is_closed d (read_entries (count - i) (drop (3 + 5 * i) book)))
 
 abbrev decreases-loop : tie.decreases-loop
 decreases-loop book closed₀ count i₀ closed i = count - i
@@ -66,14 +66,14 @@ loop-again c =
     let i = l.loop.i in (
       search rules,
       k.close_at.auto.1.1.0 ∙ l.loop.invariant.1,
-      λ d h. table_step (get_or l.loop.closed d false) (isMarkOf d (decode (drop (3 + 5 * i) ws))) (isClosed d (readEntries (n - (i + 1)) (drop (3 + 5 * (i + 1)) ws))) (l.loop.invariant.2 d h) (closed-from d n ws i t.loop-test.true) (k.close_at.ensures d h),
+      λ d h. table_step (get_or l.loop.closed d false) (is_mark_of d (decode (drop (3 + 5 * i) ws))) (is_closed d (read_entries (n - (i + 1)) (drop (3 + 5 * (i + 1)) ws))) (l.loop.invariant.2 d h) (closed-from d n ws i t.loop-test.true) (k.close_at.ensures d h),
     )
 
 same_length : tie.Need-same-length invariant-loop decreases-loop
 same_length c = c.before.loop.invariant.1
 
 returns : tie.Need-returns invariant-loop decreases-loop
-unfolding readEntries isClosed any
+unfolding read_entries is_closed any
 returns c =
     let l = c.before in
     let z : l.before.count_of.result - l.loop.i ≡ 0 = omega arith in

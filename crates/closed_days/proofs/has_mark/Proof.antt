@@ -9,8 +9,8 @@ use lib.Dec.{eqb}
 use lib.ListN.{length, drop}
 use borrow.Author.Tests.{eq-eqb, ne_eqb}
 use Rattle.numbers.specs.Tests.{any}
-use Rattle.rules.specs.Entry.{isMark}
-use Rattle.rules.specs.Words.{entries, countOf, readEntries}
+use Rattle.rules.specs.Entry.{is_mark}
+use Rattle.rules.specs.Words.{entries, count_of, read_entries}
 use Rattle.words.proofs.BookCode.{book-long, book-within}
 use Rattle.closed_days.proofs.MarkLaws.{mark-from}
 use borrow.Author.Rules.{rules}
@@ -21,23 +21,23 @@ abbrev invariant-loop : tie.invariant-loop
 invariant-loop book count n₀ n =
     (n ≤ count)
     × (3 + 5 * count ≤ length book)
-    × (any isMark (entries book) ≡ any isMark (readEntries (count - n) (drop (3 + 5 * n) book)))
+    × (any is_mark (entries book) ≡ any is_mark (read_entries (count - n) (drop (3 + 5 * n) book)))
 
 abbrev decreases-loop : tie.decreases-loop
 decreases-loop book count n₀ n = count - n
 
 -- the words, at a turn of the loop
-abbrev bookAt : tie.At-loop invariant-loop decreases-loop → List ℕ
-bookAt l = l.before.before.before.args.book.now
+abbrev book_at : tie.At-loop invariant-loop decreases-loop → List ℕ
+book_at l = l.before.before.before.args.book.now
 
 -- after the type of an entry is read: whether the book has a mark, by that entry and those to come
 by-entry : (t : tie.After-type-at invariant-loop decreases-loop) →
     let l = t.before.before in
     let n = l.before.count_of.result in
-    any isMark (entries (bookAt l)) ≡ eqb t.type-at.result 21 || any isMark (readEntries (n - (l.loop.n + 1)) (drop (3 + 5 * (l.loop.n + 1)) (bookAt l)))
+    any is_mark (entries (book_at l)) ≡ eqb t.type-at.result 21 || any is_mark (read_entries (n - (l.loop.n + 1)) (drop (3 + 5 * (l.loop.n + 1)) (book_at l)))
 by-entry t =
     let l = t.before.before in
-    l.loop.invariant.2 ∙ rw t.type-at.ensures (mark-from l.before.count_of.result (bookAt l) l.loop.n t.before.loop-test.true)
+    l.loop.invariant.2 ∙ rw t.type-at.ensures (mark-from l.before.count_of.result (book_at l) l.loop.n t.before.loop-test.true)
 
 count-of-requires : tie.Need-count-of-requires invariant-loop decreases-loop
 count-of-requires c κs = search book-long
@@ -50,7 +50,7 @@ unfolding entries
 loop-holds c =
     let s = c.before.before in
     let ws = s.args.book.now in
-    (zero-le, rw c.count_of.ensures (book-within ws s.requires), rw (c.count_of.ensures, sub-zero (countOf ws)))
+    (zero-le, rw c.count_of.ensures (book-within ws s.requires), rw (c.count_of.ensures, sub-zero (count_of ws)))
 
 mul-type-at : tie.Need-overflow-mul-type-at invariant-loop decreases-loop
 mul-type-at c = search rules
@@ -74,7 +74,7 @@ loop-again : tie.Need-loop-preserved invariant-loop decreases-loop
 loop-again c = (search rules, search rules, by-entry c.before ∙ rw (ne_eqb _ _ c.if1.false))
 
 returns-2 : tie.Need-returns-2 invariant-loop decreases-loop
-unfolding any readEntries
+unfolding any read_entries
 returns-2 c =
     let l = c.before in
     let z : l.before.count_of.result - l.loop.n ≡ 0 = omega arith in

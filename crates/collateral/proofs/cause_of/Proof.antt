@@ -1,8 +1,8 @@
 -- `collateral::cause_of` meets its contract. Assumes nothing.
 use mathlib.Core.Path.{◌≡◌, sym, ◌∙◌}
 use Rattle.numbers.proofs.CauseLaws.{else-stop}
-use Rattle.rules.specs.Balance.{partyDayCause}
-use Rattle.rules.specs.Collateral.{collateralCause}
+use Rattle.rules.specs.Balance.{party_day_cause}
+use Rattle.rules.specs.Collateral.{collateral_cause}
 use Rattle.entry_checks.proofs.Ladder.{passed, failed}
 use borrow.Author.Rules.{rules}
 use Rattle.collateral.proofs.cause_of.Statement.{statement}
@@ -12,20 +12,20 @@ party-day-cause-requires : tie.Need-party-day-cause-requires
 party-day-cause-requires c κs = search rules
 
 returns : tie.Need-returns
-unfolding collateralCause
+unfolding collateral_cause
 returns c = rw (← c.before.party-day-cause.ensures) (sym (else-stop _ _ c.if1.true))
 
 figures-ok-requires : tie.Need-figures-ok-requires
 figures-ok-requires c κs = search rules
 
 returns-2 : tie.Need-returns-2
-unfolding collateralCause
+unfolding collateral_cause
 returns-2 c =
     let b = c.before.before in
     rw (sym b.before.party-day-cause.ensures ∙ b.if1.false, failed c.before.figures-ok.ensures c.if2.true)
 
 returns-3 : tie.Need-returns-3
-unfolding collateralCause
+unfolding collateral_cause
 returns-3 c =
     let b = c.before.before in
     rw (sym b.before.party-day-cause.ensures ∙ b.if1.false, passed c.before.figures-ok.ensures c.if2.false)

@@ -3,7 +3,7 @@ use mathlib.Core.List.{List}
 use Prim.Native.Nat.{ℕ}
 use native.Mathlib.Omega.{arith}
 use Rattle.rules.proofs.CallLaws.{control-passes}
-use Rattle.control.proofs.RunLaws.{run-book, after_first, mark-room, run-answers, run-words, run_fits}
+use Rattle.control.proofs.RunLaws.{run-book, after_first_lem, mark-room, run-answers, run-words, run_fits}
 use borrow.Author.Rules.{rules}
 use Rattle.control.proofs.run.Statement.{statement}
 use Rattle.control.proofs.run.Tie as tie
@@ -32,7 +32,7 @@ run-pass-requires-2 : tie.Need-run-pass-requires-2
 run-pass-requires-2 c κs =
     let p = c.before.before.before in
     let s = start p in
-    (after_first (ws s) (day s) s.pre p.run-pass.ensures.1).is-book
+    (after_first_lem (ws s) (day s) s.pre p.run-pass.ensures.1).is-book
 
 append-mark-requires : tie.Need-append-mark-requires
 append-mark-requires c κs =

@@ -3,8 +3,8 @@ use mathlib.Core.Path.{◌≡◌, ap, ◌∙◌}
 use Prim.Native.Nat.{◌+◌, ◌*◌, ◌≤◌}
 use native.Mathlib.Omega.{arith}
 use Rattle.rules.specs.DayFile.{items}
-use Rattle.rules.specs.Calls.{fileAnswer}
-use Rattle.dayfile.specs.Stored.{storedFrom}
+use Rattle.rules.specs.Calls.{file_answer}
+use Rattle.dayfile.specs.Stored.{stored_from}
 use Rattle.words.proofs.BookCode.{book-long}
 use Rattle.entry_checks.proofs.Ladder.{passed, failed}
 use Rattle.dayfile.proofs.FileLaws.{not-a-book, not-a-file, left-as-was, done-within, done-legal, done-count, done-stores}
@@ -35,7 +35,7 @@ stored c = c.before.before.before
 by_answer : {A : Type 0} (d : tie.Else3) →
     let a = (given d).args in
     let r = (answered d).answer-of.result in
-    (r ≡ fileAnswer a.book.now a.file.now → r.answer ≡ 0 → A) → A
+    (r ≡ file_answer a.book.now a.file.now → r.answer ≡ 0 → A) → A
 by_answer d law = law (answered d).answer-of.ensures d.if3.false
 
 few : (n : tie.After-count-of) → n.count_of.result + (answered (passes n)).answer-of.result.posted ≤ 3072
@@ -109,7 +109,7 @@ returns-4 c =
     let n = counted k in
     let d = passes n in
     let a = (given d).args in
-    let w = k.store-lines.ensures ∙ ap (λ m. storedFrom a.book.now (3 + 5 * m) (items a.file.now)) n.count_of.ensures in
+    let w = k.store-lines.ensures ∙ ap (λ m. stored_from a.book.now (3 + 5 * m) (items a.file.now)) n.count_of.ensures in
     ((answered d).answer-of.ensures, rw n.count_of.ensures (by_answer d (done-stores _ _) _ w))
 
 pub read-file-spec : {M : Type 1} → statement M

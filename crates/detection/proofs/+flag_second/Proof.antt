@@ -3,7 +3,7 @@ use mathlib.Core.Path.{◌≡◌}
 use mathlib.Core.Bool.{Bool, false, cond}
 use Prim.Native.Nat.{ℕ, ◌<◌}
 use native.Mathlib.Omega.{arith}
-use Rattle.repeated_pairs.specs.Flags.{noFlags}
+use Rattle.repeated_pairs.specs.Flags.{no_flags}
 use Rattle.detection.proofs.SecondLaws.{none-likely, none-detected, narrowed-to, all_found}
 use borrow.Author.Rules.{rules}
 use borrow.Fn.Kinds.{In}
@@ -44,7 +44,7 @@ flag-second-returns : (t : ℕ) → flag-second-lts.Need-returns (known t) (flag
 flag-second-returns t c = search all_found
 
 flag-second-flag-likely-requires : (t : ℕ) → flag-second-lts.Need-flag-likely-requires (known t) (flag-second-at t) flag-second.Post
-unfolding noFlags
+unfolding no_flags
 flag-second-flag-likely-requires t c κs = search rules
 
 flag-second-count-requires : (t : ℕ) → flag-second-lts.Need-count-requires (known t) (flag-second-at t) flag-second.Post
@@ -54,7 +54,7 @@ flag-second-returns-2 : (t : ℕ) → flag-second-lts.Need-returns-2 (known t) (
 flag-second-returns-2 t c = search none-likely
 
 flag-second-detect-requires : (t : ℕ) → flag-second-lts.Need-detect-requires (known t) (flag-second-at t) flag-second.Post
-unfolding noFlags
+unfolding no_flags
 flag-second-detect-requires t c κs = search rules
 
 flag-second-count-requires-2 : (t : ℕ) → flag-second-lts.Need-count-requires-2 (known t) (flag-second-at t) flag-second.Post

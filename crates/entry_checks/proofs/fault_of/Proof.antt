@@ -1,6 +1,6 @@
 -- `entry_checks::fault_of` meets its contract. Assumes nothing.
 use borrow.Author.Rules.{rules}
-use Rattle.rules.specs.Entry.{fault, counterpartyOk}
+use Rattle.rules.specs.Entry.{fault, counterparty_ok}
 use Rattle.entry_checks.proofs.Ladder.{passed, failed}
 use Rattle.entry_checks.proofs.fault_of.Statement.{statement}
 use Rattle.entry_checks.proofs.fault_of.Tie as tie
@@ -35,7 +35,7 @@ counterparty-ok-requires : tie.Need-counterparty-ok-requires
 counterparty-ok-requires c κs = search rules
 
 returns-4 : tie.Need-returns-4
-unfolding fault counterpartyOk
+unfolding fault counterparty_ok
 returns-4 c =
     let b3 = c.before.before in
     let b2 = b3.before.before in
@@ -46,7 +46,7 @@ amount-ok-requires : tie.Need-amount-ok-requires
 amount-ok-requires c κs = search rules
 
 returns-5 : tie.Need-returns-5
-unfolding fault counterpartyOk
+unfolding fault counterparty_ok
 returns-5 c =
     let b4 = c.before.before in
     let b3 = b4.before.before in
@@ -55,7 +55,7 @@ returns-5 c =
     rw (passed b1.before.party-ok.ensures b1.if1.false, passed b2.before.day-ok.ensures b2.if2.false, passed b3.before.is-type.ensures b3.if3.false, passed b4.before.counterparty-ok.ensures b4.if4.false, failed c.before.amount-ok.ensures c.if5.true)
 
 returns-6 : tie.Need-returns-6
-unfolding fault counterpartyOk
+unfolding fault counterparty_ok
 returns-6 c =
     let b5 = c in
     let b4 = b5.before.before in

@@ -1,7 +1,7 @@
 -- `entry_words::amount_words_limit` meets its contract. Assumes nothing.
 use mathlib.Core.Path.{sym, ◌∙◌}
 use borrow.Author.Rules.{rules}
-use Rattle.rules.specs.Entry.{amountLimit}
+use Rattle.rules.specs.Entry.{amount_limit}
 use Rattle.entry_words.proofs.amount_words_limit.Statement.{statement}
 use Rattle.entry_words.proofs.amount_words_limit.Tie as tie
 
@@ -9,11 +9,11 @@ is-money-requires : tie.Need-is-money-requires
 is-money-requires c κs = search rules
 
 returns : tie.Need-returns
-unfolding amountLimit
+unfolding amount_limit
 returns c = rw (sym c.before.is-money.ensures ∙ c.if1.true)
 
 returns-2 : tie.Need-returns-2
-unfolding amountLimit
+unfolding amount_limit
 returns-2 c = rw (sym c.before.is-money.ensures ∙ c.if1.false)
 
 pub amount-words-limit-spec : {M : Type 1} → statement M

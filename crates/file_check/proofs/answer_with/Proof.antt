@@ -1,8 +1,8 @@
 -- `file_check::answer_with` meets its contract. Assumes nothing.
 use mathlib.Core.Path.{◌≡◌, ◌∙◌}
 use mathlib.Core.Bool.{true}
-use Rattle.rules.specs.Words.{isBook, entries}
-use Rattle.rules.specs.DayFile.{isFile, items}
+use Rattle.rules.specs.Words.{is_book, entries}
+use Rattle.rules.specs.DayFile.{is_file, items}
 use Rattle.rules.specs.declared.FileRead.{FileRead}
 use Rattle.file_check.specs.Check.{TableOf, scanned}
 use Rattle.words.proofs.BookCode.{book-long}
@@ -24,7 +24,7 @@ by-scan : {A : FileRead → Type 0} (n : tie.After-scan) →
     let ws = a.book.now in
     let bs = a.file.now in
     let cs = a.closed.now in
-    (isBook ws ≡ true → isFile bs ≡ true → TableOf cs (entries ws) → (r : FileRead) → r ≡ scanned cs (items bs) → A r) → A n.scan.result
+    (is_book ws ≡ true → is_file bs ≡ true → TableOf cs (entries ws) → (r : FileRead) → r ≡ scanned cs (items bs) → A r) → A n.scan.result
 by-scan n law =
     let p = (start n).requires in
     law p.0 p.1.0 p.1.1 n.scan.result n.scan.ensures

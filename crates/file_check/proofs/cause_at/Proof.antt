@@ -4,10 +4,10 @@ use mathlib.Core.Bool.{Bool}
 use Prim.Native.Nat.{ℕ}
 use Rattle.rules.specs.DayFile.{empty_block}
 use Rattle.file_walk.specs.declared.Cursor.{Cursor}
-use Rattle.file_walk.specs.Walk.{lineItem}
-use Rattle.file_check.specs.Check.{causeBy}
+use Rattle.file_walk.specs.Walk.{line_item}
+use Rattle.file_check.specs.Check.{cause_by}
 use Rattle.file_walk.proofs.WalkLaws.{head-whole, line-whole, block_held, nothing-held, line-held}
-use Rattle.file_check.proofs.CheckLaws.{cause-of-one}
+use Rattle.file_check.proofs.CheckLaws.{cause_of-one}
 use borrow.Author.Rules.{rules}
 use Rattle.file_check.proofs.cause_at.Statement.{statement}
 use Rattle.file_check.proofs.cause_at.Tie as tie
@@ -33,11 +33,11 @@ block-cause-requires : tie.Need-block-cause-requires
 block-cause-requires c κs = search rules
 
 returns : tie.Need-returns
-unfolding causeBy
+unfolding cause_by
 returns c =
     let h = c.before.before.before in
     let k = h.before.before in
-    cause-of-one (closed k) (empty_block h.head_at.result.party h.head_at.result.day) c.block-cause.ensures
+    cause_of-one (closed k) (empty_block h.head_at.result.party h.head_at.result.day) c.block-cause.ensures
     (block_held (bytes k) (cursor k) h.before.if1.true h.head_at.result h.head_at.ensures c.before.if2.true)
 
 returns-2 : tie.Need-returns-2
@@ -56,7 +56,7 @@ returns-3 : tie.Need-returns-3
 returns-3 c =
     let l = c.before.before in
     let k = l.before.before in
-    cause-of-one (closed k) (lineItem l.line_at_lem.result) c.line-cause.ensures
+    cause_of-one (closed k) (line_item l.line_at_lem.result) c.line-cause.ensures
     (line-held (bytes k) (cursor k) l.before.if1.false l.line_at_lem.result l.line_at_lem.ensures)
 
 pub cause-at-spec : {M : Type 1} → statement M

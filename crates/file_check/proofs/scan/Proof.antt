@@ -5,10 +5,10 @@ use Prim.Native.Nat.{◌≤◌, ◌+◌, ◌-◌, zero-le}
 use native.Mathlib.Omega.{arith}
 use lib.ListN.{length}
 use Rattle.rules.specs.DayFile.{items, lines_of}
-use Rattle.file_walk.specs.Walk.{isMore, leftItems}
-use Rattle.file_check.specs.Check.{firstCause}
+use Rattle.file_walk.specs.Walk.{is_more, left_items}
+use Rattle.file_check.specs.Check.{first_cause}
 use Rattle.file_walk.proofs.WalkLaws.{items-end, past-within, walk-less}
-use Rattle.file_check.proofs.CheckLaws.{cause-stops, cause-goes-on, lines_step, lines-at-most, scan-refused, scan-done}
+use Rattle.file_check.proofs.CheckLaws.{cause-stops, cause-goes-on, lines_step, lines_at-most, scan-refused, scan-done}
 use borrow.Author.Rules.{rules}
 use Rattle.file_check.proofs.scan.Statement.{statement}
 use Rattle.file_check.proofs.scan.Tie as tie
@@ -17,8 +17,8 @@ abbrev invariant-loop : tie.invariant-loop
 invariant-loop file closed c₀ lines₀ c lines =
     (c.at ≤ length file)
     × (lines ≤ c.at)
-    × (firstCause closed (items file) ≡ firstCause closed (leftItems file c))
-    × (length (lines_of (items file)) ≡ lines + length (lines_of (leftItems file c)))
+    × (first_cause closed (items file) ≡ first_cause closed (left_items file c))
+    × (length (lines_of (items file)) ≡ lines + length (lines_of (left_items file c)))
 
 abbrev decreases-loop : tie.decreases-loop
 decreases-loop file closed c₀ lines₀ c lines = length file - c.at
@@ -28,7 +28,7 @@ module _ (t : tie.Then1 invariant-loop decreases-loop) where
   abbrev turn : tie.At-loop invariant-loop decreases-loop
   turn = t.before.before
 
-  more : isMore turn.before.before.before.before.args.file.now turn.loop.c ≡ true
+  more : is_more turn.before.before.before.before.args.file.now turn.loop.c ≡ true
   more = sym t.before.more.ensures ∙ t.if1.taken
 
 -- from the lines counted back to the test for more
@@ -57,7 +57,7 @@ lines-at-requires : tie.Need-lines-at-requires invariant-loop decreases-loop
 lines-at-requires c κs = search rules
 
 add-lines : tie.Need-overflow-add-lines invariant-loop decreases-loop
-add-lines c = rw c.lines_at.ensures (omega (arith, lines-at-most (turn (reading c)).loop.c))
+add-lines c = rw c.lines_at.ensures (omega (arith, lines_at-most (turn (reading c)).loop.c))
 
 advance-requires : tie.Need-advance-requires invariant-loop decreases-loop
 advance-requires c κs = search more
@@ -74,7 +74,7 @@ loop-again c =
     let w = past-within _ _ (more t) in
     rw (c.advance.ensures, n.lines_at.ensures) (
       w.1,
-      omega (arith, lines-at-most (turn t).loop.c, w.0),
+      omega (arith, lines_at-most (turn t).loop.c, w.0),
       v.2 ∙ cause-goes-on _ _ (more t) _ e.before.cause-at.ensures e.if2.false,
       omega (arith, v.3, lines_step _ _ (more t)),
     )

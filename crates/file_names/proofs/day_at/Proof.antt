@@ -5,11 +5,11 @@ use Prim.Native.Nat.{ℕ}
 use lib.Dec.{eqb}
 use borrow.Author.Tests.{eq-eqb, ne_eqb}
 use Rattle.numbers.specs.Tests.{any}
-use Rattle.rules.specs.DayFile.{empty_block, itemNames}
+use Rattle.rules.specs.DayFile.{empty_block, item_names}
 use Rattle.entry_checks.proofs.Ladder.{passed, failed}
-use Rattle.file_walk.specs.Walk.{itemsAt, lineItem}
+use Rattle.file_walk.specs.Walk.{items_at, line_item}
 use Rattle.file_walk.proofs.WalkLaws.{head-whole, line-whole, block_held, nothing-held, line-held}
-use Rattle.file_names.proofs.NameLaws.{marked, of_none, of_one}
+use Rattle.file_names.proofs.NameLaws.{marked, of_none, of_one_lem}
 use borrow.Author.Rules.{rules}
 use Rattle.file_names.proofs.day_at.Statement.{statement}
 use Rattle.file_names.proofs.day_at.Tie as tie
@@ -21,13 +21,13 @@ start k = k.before.before.before
 block-names : (j : tie.Else2) (d : ℕ) →
     let h = j.before.before in
     let a = (start h.before.before).args in
-    any (itemNames a.party d) (itemsAt a.file.now a.c) ≡ itemNames a.party d (empty_block h.head_at.result.party h.head_at.result.day)
-block-names j d = let h = j.before.before in of_one _ _ (block_held _ _ h.before.if1.true _ h.head_at.ensures j.if2.false)
+    any (item_names a.party d) (items_at a.file.now a.c) ≡ item_names a.party d (empty_block h.head_at.result.party h.head_at.result.day)
+block-names j d = let h = j.before.before in of_one_lem _ _ (block_held _ _ h.before.if1.true _ h.head_at.ensures j.if2.false)
 
 line-names : (t : tie.After-line-at) (d : ℕ) →
     let a = (start t.before.before).args in
-    any (itemNames a.party d) (itemsAt a.file.now a.c) ≡ itemNames a.party d (lineItem t.line_at_lem.result)
-line-names t d = of_one _ _ (line-held _ _ t.before.if1.false _ t.line_at_lem.ensures)
+    any (item_names a.party d) (items_at a.file.now a.c) ≡ item_names a.party d (line_item t.line_at_lem.result)
+line-names t d = of_one_lem _ _ (line-held _ _ t.before.if1.false _ t.line_at_lem.ensures)
 
 head-at-requires : tie.Need-head-at-requires
 head-at-requires c κs = head-whole _ _ (start c.before).requires c.if1.true
@@ -38,7 +38,7 @@ returns c =
     λ d _. of_none _ (nothing-held _ _ h.before.if1.true _ h.head_at.ensures c.if2.true) _
 
 returns-2 : tie.Need-returns-2
-unfolding itemNames
+unfolding item_names
 returns-2 c = λ d _. rw (block-names c.before.before d, ne_eqb _ _ c.if3.true) (sym (or-false _))
 
 mark-requires : tie.Need-mark-requires
@@ -48,7 +48,7 @@ same_length : tie.Need-same-length
 same_length c = search rules
 
 returns-3 : tie.Need-returns-3
-unfolding itemNames
+unfolding item_names
 returns-3 c =
     let m = c.before.before in
     let k = m.before.before in
@@ -64,7 +64,7 @@ is-named-requires : tie.Need-is-named-requires
 is-named-requires c κs = search rules
 
 returns-4 : tie.Need-returns-4
-unfolding itemNames
+unfolding item_names
 returns-4 c =
     let n = c.before in
     λ d _. rw (line-names n.before d, failed n.is-named.ensures c.if4.true, and-false) (sym (or-false _))
@@ -76,7 +76,7 @@ same-length-2 : tie.Need-same-length-2
 same-length-2 c = search rules
 
 returns-5 : tie.Need-returns-5
-unfolding itemNames
+unfolding item_names
 returns-5 c =
     let m = c.before.before in
     let e = m.before.before in

@@ -2,7 +2,7 @@
 use mathlib.Core.Path.{refl, sym, ◌∙◌}
 use Prim.Native.Nat.{◌-◌, zero-le}
 use lib.ListN.{length}
-use Rattle.rules.specs.DayFile.{items, itemNames, fileNames}
+use Rattle.rules.specs.DayFile.{items, item_names, file_names}
 use Rattle.file_walk.proofs.WalkLaws.{walk-less}
 use Rattle.file_names.proofs.NameLaws.{Marks, marks-step, marks-end}
 use borrow.Author.Rules.{rules}
@@ -10,7 +10,7 @@ use Rattle.file_names.proofs.mark_days.Statement.{statement}
 use Rattle.file_names.proofs.mark_days.Tie as tie
 
 abbrev invariant-loop : tie.invariant-loop
-invariant-loop file party days₀ c₀ days c = Marks (itemNames party) file days₀ days c
+invariant-loop file party days₀ c₀ days c = Marks (item_names party) file days₀ days c
 
 abbrev decreases-loop : tie.decreases-loop
 decreases-loop file party days₀ c₀ days c = length file - c.at
@@ -47,17 +47,17 @@ loop-again c =
     let t = m.before.before in
     let l = t.before.before in
     let a = (start l).args in
-    marks-step (itemNames a.party) a.file.now a.days.now l.loop.days l.loop.c l.loop.inv t.before.more.ensures t.if1.taken c.advance.ensures m.day-at.kept.1.1.1.0 m.day-at.ensures
+    marks-step (item_names a.party) a.file.now a.days.now l.loop.days l.loop.c l.loop.inv t.before.more.ensures t.if1.taken c.advance.ensures m.day-at.kept.1.1.1.0 m.day-at.ensures
 
 same_length : tie.Need-same-length invariant-loop decreases-loop
 same_length c = c.before.before.loop.invariant.long
 
 returns : tie.Need-returns invariant-loop decreases-loop
-unfolding fileNames
+unfolding file_names
 returns c =
     let l = c.before.before in
     let a = (start l).args in
-    marks-end (itemNames a.party) a.file.now a.days.now l.loop.days l.loop.c l.loop.invariant c.before.more.ensures c.if1.false
+    marks-end (item_names a.party) a.file.now a.days.now l.loop.days l.loop.c l.loop.invariant c.before.more.ensures c.if1.false
 
 pub mark-days-spec : {M : Type 1} → statement M
 mark-days-spec =

@@ -3,7 +3,7 @@ use mathlib.Core.Path.{refl, sym, ◌∙◌}
 use Prim.Native.Nat.{◌-◌, zero-le}
 use lib.ListN.{length}
 use Rattle.rules.specs.DayFile.{items}
-use Rattle.file_names.specs.Names.{itemHas, namesParty}
+use Rattle.file_names.specs.Names.{item_has, names_party}
 use Rattle.file_walk.proofs.WalkLaws.{walk-less}
 use Rattle.file_names.proofs.NameLaws.{Marks, marks-step, marks-end}
 use borrow.Author.Rules.{rules}
@@ -11,7 +11,7 @@ use Rattle.file_names.proofs.mark_parties.Statement.{statement}
 use Rattle.file_names.proofs.mark_parties.Tie as tie
 
 abbrev invariant-loop : tie.invariant-loop
-invariant-loop file parties₀ c₀ parties c = Marks itemHas file parties₀ parties c
+invariant-loop file parties₀ c₀ parties c = Marks item_has file parties₀ parties c
 
 abbrev decreases-loop : tie.decreases-loop
 decreases-loop file parties₀ c₀ parties c = length file - c.at
@@ -48,17 +48,17 @@ loop-again c =
     let t = m.before.before in
     let l = t.before.before in
     let a = (start l).args in
-    marks-step itemHas a.file.now a.parties.now l.loop.parties l.loop.c l.loop.inv t.before.more.ensures t.if1.taken c.advance.ensures m.party-at.kept.1.1.0 m.party-at.ensures
+    marks-step item_has a.file.now a.parties.now l.loop.parties l.loop.c l.loop.inv t.before.more.ensures t.if1.taken c.advance.ensures m.party-at.kept.1.1.0 m.party-at.ensures
 
 same_length : tie.Need-same-length invariant-loop decreases-loop
 same_length c = c.before.before.loop.invariant.long
 
 returns : tie.Need-returns invariant-loop decreases-loop
-unfolding namesParty
+unfolding names_party
 returns c =
     let l = c.before.before in
     let a = (start l).args in
-    marks-end itemHas a.file.now a.parties.now l.loop.parties l.loop.c l.loop.invariant c.before.more.ensures c.if1.false
+    marks-end item_has a.file.now a.parties.now l.loop.parties l.loop.c l.loop.invariant c.before.more.ensures c.if1.false
 
 pub mark-parties-spec : {M : Type 1} → statement M
 mark-parties-spec =

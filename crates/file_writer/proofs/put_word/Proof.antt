@@ -9,19 +9,19 @@ use lib.Seq.{sets-eq}
 use borrow.Author.Tests.{le-leb, lt-leb}
 use borrow.Author.Rules.{rules}
 use Rattle.word_bytes.specs.Bytes.{bytes_of}
-use Rattle.file_writer.specs.Write.{putCause, putWords, bytes_at}
+use Rattle.file_writer.specs.Write.{put_cause, put_words, bytes_at}
 use Rattle.file_writer.proofs.put_word.Statement.{statement}
 use Rattle.file_writer.proofs.put_word.Tie as tie
 
 returns : tie.Need-returns
-unfolding putCause putWords
+unfolding put_cause put_words
 returns c = let a = c.before.before.args in let e = lt-leb (a.at + 4) (length a.file.now) (omega arith) in (rw e, rw e)
 
 sub-if2 : tie.Need-overflow-sub-if2
 sub-if2 c = search rules
 
 returns-2 : tie.Need-returns-2
-unfolding putCause putWords
+unfolding put_cause put_words
 returns-2 c = let a = c.before.before.before.args in let e = lt-leb (a.at + 4) (length a.file.now) (omega arith) in (rw e, rw e)
 
 put-word-requires : tie.Need-put-word-requires
@@ -31,7 +31,7 @@ same_length : tie.Need-same-length
 same_length c = search rules
 
 returns-3 : tie.Need-returns-3
-unfolding putCause putWords bytes_at bytes_of
+unfolding put_cause put_words bytes_at bytes_of
 returns-3 c =
     let p = c.before.before in
     let a = p.before.before.before.before.before.args in

@@ -3,7 +3,7 @@ use mathlib.Core.Path.{◌∙◌, ap}
 use borrow.Author.Rules.{rules}
 use mir.Syntax.{w64}
 use mir.ValLaws.{to_z-of_z}
-use Rattle.rules.specs.Collateral.{collateralAnswer}
+use Rattle.rules.specs.Collateral.{collateral_answer}
 use Rattle.host_word_questions.proofs.fanzsoreb_collateral_words.Statement.{statement}
 use Rattle.host_word_questions.proofs.fanzsoreb_collateral_words.Tie as tie
 
@@ -18,7 +18,7 @@ returns c =
     let k = c.before in
     let s = k.before.before in
     c.collateral.ensures
-    ∙ ap (collateralAnswer s.args.book.now)
+    ∙ ap (collateral_answer s.args.book.now)
     (rw (k.case-of.ensures, to_z-of_z w64 s.args.aedm1 s.ranges.aedm1, to_z-of_z w64 s.args.aedm2 s.ranges.aedm2, to_z-of_z w64 s.args.aedm3 s.ranges.aedm3))
 
 pub fanzsoreb-collateral-words-spec : {M : Type 1} → statement M

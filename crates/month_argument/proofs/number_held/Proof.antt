@@ -4,7 +4,7 @@ use Prim.Native.Nat.{◌≤◌, ◌-◌, zero-le}
 use native.Mathlib.Omega.{arith}
 use lib.ListN.{length, drop}
 use Rattle.calendar.specs.Calendar.{months}
-use Rattle.month_argument.specs.Held.{heldFrom}
+use Rattle.month_argument.specs.Held.{held_from}
 use Rattle.month_argument.proofs.HeldLaws.{held_next, held-end, held-most}
 use borrow.Author.Rules.{rules}
 use Rattle.month_argument.proofs.number_held.Statement.{statement}
@@ -12,7 +12,7 @@ use Rattle.month_argument.proofs.number_held.Tie as tie
 
 abbrev invariant-loop : tie.invariant-loop
 invariant-loop bytes number₀ i₀ number i =
-    (i ≤ length bytes) × ((number ≤ months) × (heldFrom number (drop i bytes) ≡ heldFrom 0 bytes))
+    (i ≤ length bytes) × ((number ≤ months) × (held_from number (drop i bytes) ≡ held_from 0 bytes))
 
 abbrev decreases-loop : tie.decreases-loop
 decreases-loop bytes number₀ i₀ number i = length bytes - i

@@ -4,8 +4,8 @@ use mathlib.Core.Bool.{true, ◌&&◌}
 use borrow.Author.Rules.{rules}
 use borrow.Author.Tests.{not-true, not-false}
 use Rattle.month_step.specs.Ranges.{Placed}
-use Rattle.month_bytes.specs.Tables.{tablesIn}
-use Rattle.month_bytes.specs.Parts.{wholeTables, bytesAgree}
+use Rattle.month_bytes.specs.Tables.{tables_in}
+use Rattle.month_bytes.specs.Parts.{whole_tables, bytes_agree}
 use Rattle.month_bytes.proofs.TableLaws.{lengths-refuse, places-refuse, hours-none, on-tables, placed}
 use Rattle.month_bytes.proofs.month_on.Statement.{statement}
 use Rattle.month_bytes.proofs.month_on.Tie as tie
@@ -14,10 +14,10 @@ use Rattle.month_bytes.proofs.month_on.Tie as tie
 abbrev start : tie.Else1 → tie.Start
 start e = e.before.before.before.before.before
 
-passed : (e : tie.Else1) → let a = (start e).args in wholeTables a.prices.now a.imbalance.now a.dm.now && bytesAgree a.prices.now a.imbalance.now a.rows a.dm.now ≡ true
+passed : (e : tie.Else1) → let a = (start e).args in whole_tables a.prices.now a.imbalance.now a.dm.now && bytes_agree a.prices.now a.imbalance.now a.rows a.dm.now ≡ true
 passed e = sym e.before.lengths-ok.ensures ∙ not-false _ e.if1.false
 
-standing : (e : tie.Else2) → let a = (start e.before.before).args in Placed (tablesIn a.prices.now a.imbalance.now a.rows a.dm.now a.group)
+standing : (e : tie.Else2) → let a = (start e.before.before).args in Placed (tables_in a.prices.now a.imbalance.now a.rows a.dm.now a.group)
 standing e = placed _ _ _ _ _ (passed e.before.before) (sym e.before.places-ok.ensures ∙ not-false _ e.if2.false)
 
 lengths-ok-requires : tie.Need-lengths-ok-requires

@@ -1,7 +1,7 @@
 -- `month_bytes::step` meets its contract. Assumes nothing.
 use mathlib.Core.Path.{◌∙◌, ap}
 use borrow.Author.Rules.{rules}
-use Rattle.rules.specs.Month.{monthAnswer}
+use Rattle.rules.specs.Month.{month_answer}
 use Rattle.month_bytes.proofs.TableLaws.{dm-lent, tables-read, placed-read, row_read}
 use Rattle.month_bytes.proofs.step.Statement.{statement}
 use Rattle.month_bytes.proofs.step.Tie as tie
@@ -25,7 +25,7 @@ same-length-3 : tie.Need-same-length-3
 same-length-3 c = search rules
 
 returns : tie.Need-returns
-returns c = c.before.answer.ensures ∙ ap monthAnswer (search tables-read)
+returns c = c.before.answer.ensures ∙ ap month_answer (search tables-read)
 
 pub step_spec : {M : Type 1} → statement M
 step_spec =

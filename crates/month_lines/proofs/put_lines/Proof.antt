@@ -2,20 +2,20 @@
 use Prim.Native.Nat.{◌≤◌, ◌-◌, zero-le}
 use native.Mathlib.Omega.{arith}
 use borrow.Author.Rules.{rules}
-use Rattle.text.specs.Text.{eachFrom}
+use Rattle.text.specs.Text.{each_from}
 use Rattle.text.proofs.TextLaws.{Left, left-start, left_step, left_end, each_step, each-end}
-use Rattle.month_lines.specs.Lines.{entryLine, tableText}
+use Rattle.month_lines.specs.Lines.{entry_line, table_text}
 use Rattle.month_lines.proofs.put_lines.Statement.{statement}
 use Rattle.month_lines.proofs.put_lines.Tie as tie
 
 abbrev invariant-loop : tie.invariant-loop
-invariant-loop out₀ next₀ month₀ out next month = (month ≤ 1201) × Left out₀ 0 tableText out next (eachFrom entryLine (1201 - month) month)
+invariant-loop out₀ next₀ month₀ out next month = (month ≤ 1201) × Left out₀ 0 table_text out next (each_from entry_line (1201 - month) month)
 
 abbrev decreases-loop : tie.decreases-loop
 decreases-loop out₀ next₀ month₀ out next month = 1201 - month
 
 loop-holds : tie.Need-loop-init invariant-loop decreases-loop
-unfolding tableText
+unfolding table_text
 loop-holds c = (zero-le, left-start _ 0 _ zero-le)
 
 month-start-requires : tie.Need-month-start-requires invariant-loop decreases-loop
@@ -31,11 +31,11 @@ loop-less : tie.Need-loop-smaller invariant-loop decreases-loop
 loop-less c = search rules
 
 loop-again : tie.Need-loop-preserved invariant-loop decreases-loop
-unfolding entryLine
+unfolding entry_line
 loop-again c =
     let p = c.before.before in
     let t = p.before.before.before in
-    (omega arith, left_step t.before.loop.invariant.1 (each_step entryLine 1201 t.before.loop.month (omega arith)) (rw p.before.month-start.ensures at p.put-number.ensures))
+    (omega arith, left_step t.before.loop.invariant.1 (each_step entry_line 1201 t.before.loop.month (omega arith)) (rw p.before.month-start.ensures at p.put-number.ensures))
 
 same_length : tie.Need-same-length invariant-loop decreases-loop
 same_length c = c.before.loop.invariant.1.long

@@ -1,7 +1,7 @@
 -- `month_print::month_on` meets its contract. Assumes nothing.
 use native.Mathlib.Nat.{le_trans}
 use Rattle.text.proofs.TextLaws.{wrote-whole}
-use Rattle.month_print.specs.MonthText.{monthOn}
+use Rattle.month_print.specs.MonthText.{month_on}
 use Rattle.month_print.proofs.ReadLaws.{month-fits}
 use borrow.Author.Rules.{rules}
 use Rattle.month_print.proofs.month_on.Statement.{statement}
@@ -17,7 +17,7 @@ same_length : tie.Need-same-length
 same_length c = search rules
 
 returns : tie.Need-returns
-unfolding monthOn
+unfolding month_on
 returns c =
     let w = c.before.before.before.month-into.ensures in
     (w, λ h. wrote-whole w (le_trans (month-fits _ _) h))

@@ -1,6 +1,6 @@
 -- `month_report::month_report` meets its contract. Assumes nothing.
 use mathlib.Core.Path.{refl}
-use Rattle.rules.specs.MonthReport.{monthReport}
+use Rattle.rules.specs.MonthReport.{month_report}
 use Rattle.cells.specs.Cells.{blank}
 use Rattle.month_report.proofs.ReportLaws.{joined}
 use Rattle.month_report.proofs.month_report.Statement.{statement}

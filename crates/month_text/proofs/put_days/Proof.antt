@@ -2,16 +2,16 @@
 use Prim.Native.Nat.{◌≤◌, ◌-◌, zero-le}
 use native.Mathlib.Nat.{sub-zero}
 use native.Mathlib.Omega.{arith}
-use Rattle.text.specs.Text.{eachFrom}
+use Rattle.text.specs.Text.{each_from}
 use Rattle.text.proofs.TextLaws.{Left, left-start, left_step, left_end, each_step, each-end}
-use Rattle.month_text.specs.ReportText.{dayText}
+use Rattle.month_text.specs.ReportText.{day_text}
 use borrow.Author.Rules.{rules}
 use Rattle.month_text.proofs.put_days.Statement.{statement}
 use Rattle.month_text.proofs.put_days.Tie as tie
 
 abbrev invariant-loop : tie.invariant-loop
 invariant-loop first days lines out₀ next₀ i₀ out next i =
-    (i ≤ days) × Left out₀ 0 (eachFrom (dayText first lines) days 0) out next (eachFrom (dayText first lines) (days - i) i)
+    (i ≤ days) × Left out₀ 0 (each_from (day_text first lines) days 0) out next (each_from (day_text first lines) (days - i) i)
 
 abbrev decreases-loop : tie.decreases-loop
 decreases-loop first days lines out₀ next₀ i₀ out next i = days - i

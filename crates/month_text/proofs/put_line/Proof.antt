@@ -1,6 +1,6 @@
 -- `month_text::put_line` meets its contract. Assumes nothing.
 use Rattle.text.proofs.TextLaws.{wrote_then}
-use Rattle.month_text.specs.ReportText.{lineText}
+use Rattle.month_text.specs.ReportText.{line_text}
 use borrow.Author.Rules.{rules}
 use Rattle.month_text.proofs.put_line.Statement.{statement}
 use Rattle.month_text.proofs.put_line.Tie as tie
@@ -18,7 +18,7 @@ same_length : tie.Need-same-length
 same_length c = search rules
 
 returns : tie.Need-returns
-unfolding lineText
+unfolding line_text
 returns c =
     let k = c.before.before in
     let s = k.before.before.before.before in

@@ -1,7 +1,7 @@
 -- `month_text::put_report` meets its contract. Assumes nothing.
 use native.Mathlib.Omega.{arith}
 use Rattle.numbers.proofs.CauseLaws.{done-else}
-use Rattle.month_text.specs.ReportText.{reportText}
+use Rattle.month_text.specs.ReportText.{report_text}
 use borrow.Author.Rules.{rules}
 use Rattle.month_text.proofs.put_report.Statement.{statement}
 use Rattle.month_text.proofs.put_report.Tie as tie
@@ -13,7 +13,7 @@ same_length : tie.Need-same-length
 same_length c = search rules
 
 returns : tie.Need-returns
-unfolding reportText
+unfolding report_text
 returns c =
     let k = c.before.before in
     let i = k.before.before in
@@ -29,7 +29,7 @@ same-length-2 : tie.Need-same-length-2
 same-length-2 c = search rules
 
 returns-2 : tie.Need-returns-2
-unfolding reportText
+unfolding report_text
 returns-2 c =
     let k = c.before.before in
     rw k.before.before.before.before.if1.false k.put-lines.ensures

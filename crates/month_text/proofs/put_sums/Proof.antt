@@ -3,14 +3,14 @@ use Prim.Native.Nat.{◌≤◌, ◌-◌, zero-le}
 use native.Mathlib.Omega.{arith}
 use lib.ListN.{length, drop}
 use Rattle.text.proofs.TextLaws.{Left, left-start, left_step, left_end}
-use Rattle.month_text.specs.ReportText.{sumsText}
+use Rattle.month_text.specs.ReportText.{sums_text}
 use Rattle.month_text.proofs.LineLaws.{sums_next, sums-end}
 use borrow.Author.Rules.{rules}
 use Rattle.month_text.proofs.put_sums.Statement.{statement}
 use Rattle.month_text.proofs.put_sums.Tie as tie
 
 abbrev invariant-loop : tie.invariant-loop
-invariant-loop sums out₀ at next₀ i₀ out next i = (i ≤ length sums) × Left out₀ at (sumsText sums) out next (sumsText (drop i sums))
+invariant-loop sums out₀ at next₀ i₀ out next i = (i ≤ length sums) × Left out₀ at (sums_text sums) out next (sums_text (drop i sums))
 
 abbrev decreases-loop : tie.decreases-loop
 decreases-loop sums out₀ at next₀ i₀ out next i = length sums - i

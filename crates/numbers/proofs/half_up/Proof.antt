@@ -4,12 +4,12 @@ use Prim.Native.Nat.{◌<◌}
 use native.Mathlib.Nat.{mod-lt, pos_of_ne-zero}
 use native.Mathlib.Omega.{arith}
 use borrow.Author.Rules.{rules}
-use Rattle.numbers.proofs.RoundingLaws.{half-up-by-zero, half-up-down, half-up-up, quotient-below}
+use Rattle.numbers.proofs.RoundingLaws.{half_up-by-zero, half_up-down, half_up-up, quotient-below}
 use Rattle.numbers.proofs.half_up.Statement.{statement}
 use Rattle.numbers.proofs.half_up.Tie as tie
 
 returns : tie.Need-returns
-returns c = rw c.if1.true (sym (half-up-by-zero c.before.args.a))
+returns c = rw c.if1.true (sym (half_up-by-zero c.before.args.a))
 
 rem-rest : tie.Need-nonzero-rem-rest
 rem-rest c = search rules
@@ -29,10 +29,10 @@ add-result c =
     omega (arith, quotient-below c.before.before.args.a c.before.before.args.b p (omega arith))
 
 returns-2 : tie.Need-returns-2
-returns-2 c = search half-up-down
+returns-2 c = search half_up-down
 
 returns-3 : tie.Need-returns-3
-returns-3 c = search (half-up-up, pos_of_ne-zero)
+returns-3 c = search (half_up-up, pos_of_ne-zero)
 
 pub half-up-spec : {M : Type 1} → statement M
 half-up-spec =

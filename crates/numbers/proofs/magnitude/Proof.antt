@@ -11,7 +11,7 @@ use borrow.Author.Tests.{le-ltb}
 use mir.Syntax.{w64}
 use mir.Val.{Fits, SFits, bool_byte, to_z, of_z}
 use mir.ValLaws.{to_z-of_z}
-use Rattle.numbers.specs.Signed.{isNegative}
+use Rattle.numbers.specs.Signed.{is_negative}
 use Rattle.numbers.proofs.magnitude.Statement.{statement}
 use Rattle.numbers.proofs.magnitude.Tie as tie
 
@@ -39,7 +39,7 @@ module _ (a k : ℕ) (h : T (leb k (2 ^ 63))) where
 
 -- taken by its sign, from 2^63
 size : (x : ℤ) → SFits w64 x →
-    (of_z w64 x % 2 ^ 63) * (1 - bool_byte (isNegative x)) + (2 ^ 63 - of_z w64 x % 2 ^ 63) * bool_byte (isNegative x) ≡ nat_abs x
+    (of_z w64 x % 2 ^ 63) * (1 - bool_byte (is_negative x)) + (2 ^ 63 - of_z w64 x % 2 ^ 63) * bool_byte (is_negative x) ≡ nat_abs x
 size (pos n) f = rw (le-ltb n 0 zero-le) (omega (arith, f.sfits))
 size (negsuc n) f = omega (arith, f.sfits)
 

@@ -4,7 +4,7 @@ use mathlib.Core.Bool.{Bool, true, false, ◌&&◌}
 use mathlib.Core.List.{[], ◌∷◌}
 use lib.Dec.{eqb, leb}
 use Rattle.numbers.specs.Causes.{unless, first_of}
-use Rattle.rules.specs.Book.{openCause}
+use Rattle.rules.specs.Book.{open_cause}
 use Rattle.opening.proofs.can_open.Statement.{statement}
 use Rattle.opening.proofs.can_open.Tie as tie
 
@@ -14,7 +14,7 @@ no-cause true false = refl
 no-cause true true = refl
 
 returns : tie.Need-returns
-unfolding openCause
+unfolding open_cause
 returns c =
     let a = c.args in
     no-cause (leb 3 a.lent) (leb a.coefficient 1000 && leb a.tolerance 200000000)

@@ -4,7 +4,7 @@ use native.Mathlib.Omega.{arith}
 use lib.ListN.{length, length-set}
 use borrow.Author.Rules.{rules}
 use borrow.Author.Tests.{eqb-true, eqb-false}
-use Rattle.rules.specs.Book.{openCause}
+use Rattle.rules.specs.Book.{open_cause}
 use Rattle.rules.proofs.BookLaws.{OpenLimits, open-limits, open-refused}
 use Rattle.entry_checks.proofs.Ladder.{passed, failed}
 use Rattle.opening.proofs.Opened.{open-refuses, open-leaves}
@@ -17,7 +17,7 @@ start e = e.before.before.before
 
 clear : (e : tie.Else1) →
     let a = (start e).args in
-    openCause (length a.book.now) a.coefficient a.tolerance ≡ 0
+    open_cause (length a.book.now) a.coefficient a.tolerance ≡ 0
 clear e = eqb-true _ _ (passed e.before.can-open.ensures e.if1.false)
 
 within : (e : tie.Else1) →

@@ -4,7 +4,7 @@ use mathlib.Core.Bool.{cond}
 use mir.Syntax.{w64}
 use mir.ValLaws.{to_z-of_z}
 use borrow.Author.Rules.{rules}
-use Rattle.rules.specs.Balance.{dayAhead, delivery}
+use Rattle.rules.specs.Balance.{day_ahead, delivery}
 use Rattle.words.proofs.BookCode.{book-long}
 use Rattle.position.proofs.AnswerLaws.{Passes, passes, balance-refused, balance-done, read-bounded}
 use Rattle.position.proofs.balance_with.Statement.{statement}
@@ -31,7 +31,7 @@ returns : tie.Need-returns
 returns c =
     let b = c.before in
     let a = b.before.before.args in
-    balance-refused a.book.now a.party a.day b.party-day-cause.ensures (cond a.ahead dayAhead delivery) c.if1.true
+    balance-refused a.book.now a.party a.day b.party-day-cause.ensures (cond a.ahead day_ahead delivery) c.if1.true
 
 scan-requires : tie.Need-scan-requires
 scan-requires c κs = ((passed c).is-book, ((passed c).party, (passed c).day))
@@ -52,7 +52,7 @@ returns-2 : tie.Need-returns-2
 returns-2 c =
     let r = read c.before in
     let a = (start r.before).args in
-    balance-done a.book.now a.party a.day r.before.before.party-day-cause.ensures (cond a.ahead dayAhead delivery) r.before.if1.left r.scan.ensures c.before.before.coefficient-of.ensures c.before.tolerance-of.ensures
+    balance-done a.book.now a.party a.day r.before.before.party-day-cause.ensures (cond a.ahead day_ahead delivery) r.before.if1.left r.scan.ensures c.before.before.coefficient-of.ensures c.before.tolerance-of.ensures
     (to_z-of_z w64 c.balance-of.result (record { sfits = c.balance-of.type-inv }) ∙ c.balance-of.ensures)
 
 pub balance-with-spec : {M : Type 1} → statement M

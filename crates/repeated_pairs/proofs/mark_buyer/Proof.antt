@@ -1,6 +1,6 @@
 -- `repeated_pairs::mark_buyer` meets its contract. Assumes nothing.
 use native.Mathlib.Omega.{arith}
-use Rattle.rules.specs.Entry.{recordIn}
+use Rattle.rules.specs.Entry.{record_in}
 use Rattle.repeated_pairs.specs.Pairs.{Paired}
 use Rattle.repeated_pairs.proofs.PairLaws.{paired, of-day-cancelled, pair-in, buyer-not, buyer-marked, buyer-kept}
 use borrow.Author.Rules.{rules}
@@ -12,8 +12,8 @@ module _ (e : tie.Else1) where
   abbrev start : tie.Start
   start = e.before.before.before.before
 
-  pair : Paired (recordIn start.args.e)
-  pair = paired _ start.pre.0 (of-day-cancelled start.args.few start.args.day (recordIn start.args.e) e.if1.left)
+  pair : Paired (record_in start.args.e)
+  pair = paired _ start.pre.0 (of-day-cancelled start.args.few start.args.day (record_in start.args.e) e.if1.left)
 
 returns : tie.Need-returns
 returns c = search buyer-not

@@ -1,14 +1,14 @@
 -- `repeated_pairs::mark_buyers` meets its contract. The loop's invariant: the flags are those of the entries passed. Assumes nothing.
 use Prim.Native.Nat.{◌-◌}
 use Rattle.cells.proofs.ScanLaws.{Scanned, scan}
-use Rattle.repeated_pairs.specs.Flags.{noFlags}
-use Rattle.repeated_pairs.specs.Pairs.{buyerMarked, buyersOf}
+use Rattle.repeated_pairs.specs.Flags.{no_flags}
+use Rattle.repeated_pairs.specs.Pairs.{buyer_marked, buyers_of}
 use borrow.Author.Rules.{rules}
 use Rattle.repeated_pairs.proofs.mark_buyers.Statement.{statement}
 use Rattle.repeated_pairs.proofs.mark_buyers.Tie as tie
 
 abbrev invariant-loop : tie.invariant-loop
-invariant-loop book day few among pairs buyers₀ count i₀ buyers i = Scanned (buyerMarked few day among pairs) noFlags book count i buyers
+invariant-loop book day few among pairs buyers₀ count i₀ buyers i = Scanned (buyer_marked few day among pairs) no_flags book count i buyers
 
 abbrev decreases-loop : tie.decreases-loop
 decreases-loop book day few among pairs buyers₀ count i₀ buyers i = count - i
@@ -44,7 +44,7 @@ loop-again : tie.Need-loop-preserved invariant-loop decreases-loop
 loop-again c = search scan
 
 returns : tie.Need-returns invariant-loop decreases-loop
-unfolding buyersOf
+unfolding buyers_of
 returns c = search scan
 
 pub mark-buyers-spec : {M : Type 1} → statement M

@@ -3,8 +3,8 @@ use mathlib.Core.Path.{◌≡◌, sym, ap, ◌∙◌}
 use mathlib.Core.Bool.{true, cond}
 use mathlib.Core.Logic.{⊎_elim}
 use Prim.Native.Nat.{ℕ}
-use Rattle.rules.specs.Entry.{recordIn}
-use Rattle.repeated_pairs.specs.Pairs.{isOther, Paired, pairMarked}
+use Rattle.rules.specs.Entry.{record_in}
+use Rattle.repeated_pairs.specs.Pairs.{is_other, Paired, pair_marked}
 use Rattle.repeated_pairs.proofs.PairLaws.{paired, other-cancelled, pair-in, pair-long, pair-marked, pair-kept}
 use borrow.Author.Rules.{rules}
 use Rattle.repeated_pairs.proofs.mark_pair.Statement.{statement}
@@ -15,11 +15,11 @@ module _ (c : tie.Then1) where
   abbrev s : tie.Start
   s = c.before.before.before
 
-  yes : isOther s.args.day (recordIn s.args.e) ≡ true
+  yes : is_other s.args.day (record_in s.args.e) ≡ true
   yes = sym c.before.is-other.ensures ∙ c.if1.true
 
-  pair : Paired (recordIn s.args.e)
-  pair = paired (recordIn s.args.e) s.pre.1.0 (other-cancelled s.args.day (recordIn s.args.e) yes)
+  pair : Paired (record_in s.args.e)
+  pair = paired (record_in s.args.e) s.pre.1.0 (other-cancelled s.args.day (record_in s.args.e) yes)
 
 is-other-requires : tie.Need-is-other-requires
 is-other-requires c κs = search rules
@@ -30,7 +30,7 @@ bit-of-requires c κs = pair c
 set-bit-requires : tie.Need-set-bit-requires
 set-bit-requires c κs =
     let t = c.before.before in
-    rw (s t).requires.1.1 (pair-in (s t).args.few (recordIn (s t).args.e) (pair t) c.before.bit-of.ensures)
+    rw (s t).requires.1.1 (pair-in (s t).args.few (record_in (s t).args.e) (pair t) c.before.bit-of.ensures)
 
 one-if-requires : tie.Need-one-if-requires
 one-if-requires c κs = search rules
@@ -38,7 +38,7 @@ one-if-requires c κs = search rules
 -- the bits, either way
 left : (c : tie.After-one-if) →
     let a = c.before.before.before.before.args in
-    c.before.if1.pairs ≡ pairMarked a.few a.day (recordIn a.e) a.pairs.now
+    c.before.if1.pairs ≡ pair_marked a.few a.day (record_in a.e) a.pairs.now
 left c =
     let q = c.before.before.is-other.ensures in
     ⊎_elim

@@ -3,11 +3,11 @@ use mathlib.Core.Path.{◌≡◌, refl}
 use Prim.Native.Nat.{◌-◌}
 use native.Mathlib.Omega.{arith}
 use Rattle.numbers.specs.Sums.{total, count}
-use Rattle.rules.specs.Entry.{recordIn}
-use Rattle.rules.specs.Words.{readEntries}
+use Rattle.rules.specs.Entry.{record_in}
+use Rattle.rules.specs.Words.{read_entries}
 use Rattle.cells.specs.Cells.{blank}
-use Rattle.cells.proofs.ScanLaws.{Scanned, scan, scan-next, readTo}
-use Rattle.repeated_pairs.specs.Pairs.{isOther, pairMarked, bitWords, pairsOf}
+use Rattle.cells.proofs.ScanLaws.{Scanned, scan, scan-next, read_to}
+use Rattle.repeated_pairs.specs.Pairs.{is_other, pair_marked, bit_words, pairs_of}
 use Rattle.repeated_pairs.proofs.PairLaws.{pairs-scanned, pairs-same, one-most, others-few, others-next, others-all}
 use borrow.Author.Rules.{rules}
 use Rattle.repeated_pairs.proofs.mark_pairs.Statement.{statement}
@@ -15,7 +15,7 @@ use Rattle.repeated_pairs.proofs.mark_pairs.Tie as tie
 
 abbrev invariant-loop : tie.invariant-loop
 invariant-loop book day few pairs₀ period last n₀ i₀ pairs n i =
-    Scanned (pairMarked few day) (blank (bitWords few)) book last i pairs × (n ≡ count (isOther day) (readTo book i))
+    Scanned (pair_marked few day) (blank (bit_words few)) book last i pairs × (n ≡ count (is_other day) (read_to book i))
 
 abbrev decreases-loop : tie.decreases-loop
 decreases-loop book day few pairs₀ period last n₀ i₀ pairs n i = last - i
@@ -34,7 +34,7 @@ cast-last : tie.Need-overflow-cast-last invariant-loop decreases-loop
 cast-last c = search rules
 
 loop-holds : tie.Need-loop-init invariant-loop decreases-loop
-unfolding count total readEntries
+unfolding count total read_entries
 loop-holds c = (search scan, refl)
 
 mul-read-at : tie.Need-overflow-mul-read-at invariant-loop decreases-loop
@@ -54,7 +54,7 @@ add-n c =
     let l = (turn c).before in
     let a = l.before.before.before.before.before.args in
     let e = c.before.before.before.before.read_at.result in
-    omega (arith, others-few a.day a.book.now l.loop.i l.loop.inv.1, one-most (isOther a.day (recordIn e)) c.before.before.mark-pair.ensures.0, l.loop.inv.0.upto)
+    omega (arith, others-few a.day a.book.now l.loop.i l.loop.inv.1, one-most (is_other a.day (record_in e)) c.before.before.mark-pair.ensures.0, l.loop.inv.0.upto)
 
 add-i : tie.Need-overflow-add-i invariant-loop decreases-loop
 add-i c = search rules
@@ -75,7 +75,7 @@ same_length : tie.Need-same-length invariant-loop decreases-loop
 same_length c = search pairs-same
 
 returns : tie.Need-returns invariant-loop decreases-loop
-unfolding pairsOf
+unfolding pairs_of
 returns c = (search others-all, search scan)
 
 pub mark-pairs-spec : {M : Type 1} → statement M

@@ -4,7 +4,7 @@ use mathlib.Core.List.{[]}
 use Prim.Native.Nat.{◌≤◌, ◌-◌, zero-le}
 use native.Mathlib.Omega.{arith}
 use lib.ListN.{get_or}
-use Rattle.text.specs.Text.{eachFrom}
+use Rattle.text.specs.Text.{each_from}
 use Rattle.text.proofs.TextLaws.{Left, left-start, left_step, left_end, each_step, each-end}
 use Rattle.report.specs.Report.{line_of}
 use borrow.Author.Rules.{rules}
@@ -14,7 +14,7 @@ use Rattle.report.proofs.put_days.Tie as tie
 abbrev invariant-loop : tie.invariant-loop
 invariant-loop book party days out₀ at next₀ day₀ out next day =
     (day ≤ 36525)
-    × Left out₀ at (eachFrom (λ d. cond (get_or days d false) (line_of book party d) []) 36525 0) out next (eachFrom (λ d. cond (get_or days d false) (line_of book party d) []) (36525 - day) day)
+    × Left out₀ at (each_from (λ d. cond (get_or days d false) (line_of book party d) []) 36525 0) out next (each_from (λ d. cond (get_or days d false) (line_of book party d) []) (36525 - day) day)
 
 abbrev decreases-loop : tie.decreases-loop
 decreases-loop book party days out₀ at next₀ day₀ out next day = 36525 - day

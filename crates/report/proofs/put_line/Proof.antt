@@ -1,7 +1,7 @@
 -- `report::put_line` meets its contract. Assumes nothing.
 use mir.Syntax.{w64}
 use mir.ValLaws.{to_z-of_z}
-use Rattle.report.specs.Report.{lineText}
+use Rattle.report.specs.Report.{line_text}
 use Rattle.text.proofs.TextLaws.{wrote_then}
 use borrow.Author.Rules.{rules}
 use Rattle.report.proofs.put_line.Statement.{statement}
@@ -23,7 +23,7 @@ same_length : tie.Need-same-length
 same_length c = search rules
 
 returns : tie.Need-returns
-unfolding lineText
+unfolding line_text
 returns c =
     let v = c.before.before in
     let u = v.before.before.before.before in

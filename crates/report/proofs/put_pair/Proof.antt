@@ -2,7 +2,7 @@
 use mathlib.Core.Path.{◌∙◌}
 use mir.Syntax.{w64}
 use mir.ValLaws.{to_z-of_z}
-use Rattle.rules.specs.Balance.{dayAhead, delivery}
+use Rattle.rules.specs.Balance.{day_ahead, delivery}
 use Rattle.words.proofs.BookCode.{book-long}
 use Rattle.position.proofs.AnswerLaws.{read-bounded}
 use Rattle.report.specs.Report.{line_of}
@@ -56,7 +56,7 @@ returns c =
     let f = r.scan.ensures in
     let g = w.coefficient-of.ensures in
     let h = t.tolerance-of.ensures in
-    rw (← asked-balance q dayAhead f g h x, ← asked-balance q delivery f g h y) k.put-line.ensures
+    rw (← asked-balance q day_ahead f g h x, ← asked-balance q delivery f g h y) k.put-line.ensures
 
 pub put-pair-spec : {M : Type 1} → statement M
 put-pair-spec =

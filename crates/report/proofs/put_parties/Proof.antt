@@ -1,16 +1,16 @@
 -- `report::put_parties` meets its contract. The loop's invariant: what is left to write is the lines from the party on. Assumes nothing.
 use Prim.Native.Nat.{◌≤◌, ◌-◌}
 use native.Mathlib.Omega.{arith}
-use Rattle.text.specs.Text.{eachFrom}
+use Rattle.text.specs.Text.{each_from}
 use Rattle.text.proofs.TextLaws.{Left, left-start, left_step, left_end, each_step, each-end}
-use Rattle.report.specs.Report.{partyLines, allLines}
+use Rattle.report.specs.Report.{party_lines, all_lines}
 use borrow.Author.Rules.{rules}
 use Rattle.report.proofs.put_parties.Statement.{statement}
 use Rattle.report.proofs.put_parties.Tie as tie
 
 abbrev invariant-loop : tie.invariant-loop
 invariant-loop book file parties out₀ at next₀ party₀ out next party =
-    ((1 ≤ party) × (party ≤ 1000)) × Left out₀ at (allLines file book) out next (eachFrom (partyLines file book) (1000 - party) party)
+    ((1 ≤ party) × (party ≤ 1000)) × Left out₀ at (all_lines file book) out next (each_from (party_lines file book) (1000 - party) party)
 
 abbrev decreases-loop : tie.decreases-loop
 decreases-loop book file parties out₀ at next₀ party₀ out next party = 1000 - party
@@ -23,7 +23,7 @@ abbrev test : tie.After-put-party-arg invariant-loop decreases-loop → tie.In-l
 test c = c.before.before
 
 loop-holds : tie.Need-loop-init invariant-loop decreases-loop
-unfolding allLines
+unfolding all_lines
 loop-holds c = ((omega arith, omega arith), left-start (start c).args.out.now (start c).args.at _ (start c).requires.0)
 
 cast-put-party : tie.Need-overflow-cast-put-party invariant-loop decreases-loop

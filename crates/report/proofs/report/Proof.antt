@@ -1,7 +1,7 @@
 -- `report::report` meets its contract. Assumes nothing.
 use native.Mathlib.Nat.{le_trans}
 use Rattle.text.proofs.TextLaws.{wrote-whole}
-use Rattle.report.specs.Report.{reportOn}
+use Rattle.report.specs.Report.{report_on}
 use Rattle.report.proofs.LengthLaws.{report-fits}
 use borrow.Author.Rules.{rules}
 use Rattle.report.proofs.report.Statement.{statement}
@@ -17,7 +17,7 @@ same_length : tie.Need-same-length
 same_length c = search rules
 
 returns : tie.Need-returns
-unfolding reportOn
+unfolding report_on
 returns c =
     let w = c.before.before.before.report-into.ensures in
     (w, λ h. wrote-whole w (le_trans (report-fits _) h))

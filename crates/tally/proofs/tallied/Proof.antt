@@ -5,10 +5,10 @@ use Prim.Native.Nat.{◌<◌, ◌-◌, ◌*◌, ◌+◌, ◌%◌}
 use native.Mathlib.Omega.{arith}
 use lib.ListN.{get_or}
 use borrow.Author.Rules.{rules}
-use Rattle.rules.specs.Words.{countOf}
+use Rattle.rules.specs.Words.{count_of}
 use Rattle.words.proofs.BookCode.{book-long}
-use Rattle.cells.proofs.ScanLaws.{readAt}
-use Rattle.tally.proofs.TallyLaws.{SoFar, Adds, tallyTo, none_yet, all_read, adds_same, bought-to, own-adds, not_own, not-summed, sold-adds, sold-none}
+use Rattle.cells.proofs.ScanLaws.{read_at}
+use Rattle.tally.proofs.TallyLaws.{SoFar, Adds, tally_to, none_yet, all_read, adds_same, bought-to, own-adds, not_own, not-summed, sold-adds, sold-none}
 use Rattle.tally.proofs.tallied.Statement.{statement}
 use Rattle.tally.proofs.tallied.Tie as tie
 
@@ -27,10 +27,10 @@ start c = (turn c).before.before.before
 
 adds : (c : tie.Then2 invariant-loop decreases-loop) →
     Adds
-    (tallyTo (start c).args.book.now (start c).args.t1.party (start c).args.day (turn c).loop.i)
+    (tally_to (start c).args.book.now (start c).args.t1.party (start c).args.day (turn c).loop.i)
     (get_or (start c).args.book.now (3 + 5 * (turn c).loop.i + 2) 0 % 256)
-    (readAt (start c).args.book.now (turn c).loop.i).amount
-    (tallyTo (start c).args.book.now (start c).args.t1.party (start c).args.day ((turn c).loop.i + 1))
+    (read_at (start c).args.book.now (turn c).loop.i).amount
+    (tally_to (start c).args.book.now (start c).args.t1.party (start c).args.day ((turn c).loop.i + 1))
 adds c =
     own-adds (start c).args.book.now (start c).requires.0 (start c).args.t1.party (start c).args.day (turn c).loop.i (omega arith)
     c.before.before.if1.true (rw c.before.is-volume.ensures at c.if2.true)
@@ -121,7 +121,7 @@ add-bought : tie.Need-overflow-add-bought invariant-loop decreases-loop
 add-bought c =
     let l = c.before.before.before.before.before.before.before in
     let s = l.before.before.before in
-    let n : l.loop.i < countOf s.args.book.now = omega arith in
+    let n : l.loop.i < count_of s.args.book.now = omega arith in
     omega (
       arith,
       sold-adds s.args.book.now s.requires.0 s.args.t1.party s.args.day l.loop.i n s.requires.1.0 c.before.if3.true,
@@ -141,7 +141,7 @@ loop-again c =
     let ws = s.args.book.now in
     let p = s.args.t1.party in
     let d = s.args.day in
-    let n : l.loop.i < countOf ws = omega arith in
+    let n : l.loop.i < count_of ws = omega arith in
     record {
       within = omega arith;
       room = l.loop.invariant.room;

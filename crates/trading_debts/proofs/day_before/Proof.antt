@@ -31,7 +31,7 @@ returns c =
     let o = c.before.before.before in
     let ahead = o.before.before.chooses.ensures in
     let intraday = o.before.chooses2.ensures in
-    (rw (o.owed-on.ensures, ahead, intraday), rw (c.before.left_After.ensures, ahead), rw (c.left-after2.ensures, intraday))
+    (rw (o.owed-on.ensures, ahead, intraday), rw (c.before.left_after.ensures, ahead), rw (c.left-after2.ensures, intraday))
 
 pub day-before-spec : {M : Type 1} → statement M
 day-before-spec =

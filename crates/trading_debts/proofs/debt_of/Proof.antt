@@ -2,7 +2,7 @@
 use mathlib.Core.Path.{◌∙◌, ap}
 use Rattle.rules.specs.Words.{entries}
 use Rattle.rules.specs.Collateral.{debts}
-use Rattle.trading_debts.specs.Window.{moneyIn}
+use Rattle.trading_debts.specs.Window.{money_in}
 use Rattle.trading_debts.proofs.WindowLaws.{window-debts}
 use borrow.Author.Rules.{rules}
 use Rattle.trading_debts.proofs.debt_of.Statement.{statement}
@@ -19,7 +19,7 @@ returns c =
     let a = c.before.before.before.before.args in
     let w = c.before.before.window-of in
     c.debts-of.ensures
-    ∙ ap (λ x. debts (moneyIn x a.day) 30 a.day a.k a.k) w.ensures.0
+    ∙ ap (λ x. debts (money_in x a.day) 30 a.day a.k a.k) w.ensures.0
     ∙ window-debts a.party a.day a.k (entries a.book.now)
 
 pub debt-of-spec : {M : Type 1} → statement M

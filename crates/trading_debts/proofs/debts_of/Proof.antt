@@ -4,7 +4,7 @@ use Prim.Native.Nat.{◌+◌, ◌-◌, ◌*◌, ◌≤◌}
 use native.Mathlib.Nat.{sub-zero}
 use native.Mathlib.Omega.{arith}
 use Rattle.rules.specs.Collateral.{debts}
-use Rattle.trading_debts.specs.Window.{mostInCell, moneyIn}
+use Rattle.trading_debts.specs.Window.{most_in_cell, money_in}
 use Rattle.trading_debts.proofs.DebtLaws.{walk_more, walk_end}
 use borrow.Author.Rules.{rules}
 use Rattle.trading_debts.proofs.debts_of.Statement.{statement}
@@ -13,8 +13,8 @@ use Rattle.trading_debts.proofs.debts_of.Tie as tie
 abbrev invariant-loop : tie.invariant-loop
 invariant-loop cells day k days walk₀ i₀ walk i =
     (i ≤ days)
-    × (walk.debt ≤ i * (2 * mostInCell))
-    × (debts (moneyIn cells day) 30 day k k ≡ walk.debt + debts (moneyIn cells day) (30 - i) (day - i) walk.ahead walk.intraday)
+    × (walk.debt ≤ i * (2 * most_in_cell))
+    × (debts (money_in cells day) 30 day k k ≡ walk.debt + debts (money_in cells day) (30 - i) (day - i) walk.ahead walk.intraday)
 
 abbrev decreases-loop : tie.decreases-loop
 decreases-loop cells day k days walk₀ i₀ walk i = days - i
@@ -94,7 +94,7 @@ returns : tie.Need-returns invariant-loop decreases-loop
 returns c =
     let k = c.before in
     let s = k.before.before in
-    omega (arith, k.loop.invariant.2, walk_end (moneyIn s.args.cells.now s.args.day) (30 - k.loop.i) (s.args.day - k.loop.i) k.loop.walk.ahead k.loop.walk.intraday (omega arith))
+    omega (arith, k.loop.invariant.2, walk_end (money_in s.args.cells.now s.args.day) (30 - k.loop.i) (s.args.day - k.loop.i) k.loop.walk.ahead k.loop.walk.intraday (omega arith))
 
 pub debts-of-spec : {M : Type 1} → statement M
 debts-of-spec =

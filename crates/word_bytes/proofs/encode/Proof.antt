@@ -7,7 +7,7 @@ use borrow.Author.Rules.{rules}
 use lib.ListN.{length, take, drop}
 use lib.Seq.{take-length}
 use Rattle.word_bytes.specs.Bytes.{bytes_of}
-use Rattle.word_bytes.specs.Coding.{overBytes}
+use Rattle.word_bytes.specs.Coding.{over_bytes}
 use Rattle.word_bytes.proofs.BytesLaws.{write_step}
 use Rattle.word_bytes.proofs.encode.Statement.{statement}
 use Rattle.word_bytes.proofs.encode.Tie as tie
@@ -49,7 +49,7 @@ same_length : tie.Need-same-length invariant-loop decreases-loop
 same_length c = search rules
 
 returns : tie.Need-returns invariant-loop decreases-loop
-unfolding overBytes
+unfolding over_bytes
 returns c =
     let l = c.before.loop in
     let ws = c.before.before.before.before.args.words.now in

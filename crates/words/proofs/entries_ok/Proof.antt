@@ -5,15 +5,15 @@ use native.Mathlib.Nat.{sub-zero}
 use native.Mathlib.Omega.{arith}
 use lib.ListN.{drop}
 use borrow.Author.Rules.{rules}
-use Rattle.rules.specs.Words.{entriesOk}
+use Rattle.rules.specs.Words.{entries_ok}
 use Rattle.entry_checks.proofs.Ladder.{passed, failed}
-use Rattle.words.proofs.BookCode.{entries-ok-from}
+use Rattle.words.proofs.BookCode.{entries_ok-from}
 use Rattle.words.proofs.entries_ok.Statement.{statement}
 use Rattle.words.proofs.entries_ok.Tie as tie
 
 abbrev invariant-loop : tie.invariant-loop
 invariant-loop book count i₀ i =
-    (i ≤ count) × (entriesOk count (drop 3 book) ≡ entriesOk (count - i) (drop (3 + 5 * i) book))
+    (i ≤ count) × (entries_ok count (drop 3 book) ≡ entries_ok (count - i) (drop (3 + 5 * i) book))
 
 abbrev decreases-loop : tie.decreases-loop
 decreases-loop book count i₀ i = count - i
@@ -34,7 +34,7 @@ returns : tie.Need-returns invariant-loop decreases-loop
 returns c =
     let b = c.before.before.before in
     let a = b.before.before.args in
-    sym (b.loop.invariant.1 ∙ rw (entries-ok-from a.count a.book.now b.loop.i c.before.before.loop-test.true, failed c.before.entry-ok.ensures c.if1.true))
+    sym (b.loop.invariant.1 ∙ rw (entries_ok-from a.count a.book.now b.loop.i c.before.before.loop-test.true, failed c.before.entry-ok.ensures c.if1.true))
 
 add-i : tie.Need-overflow-add-i invariant-loop decreases-loop
 add-i c = search rules
@@ -47,11 +47,11 @@ loop-again c =
     let b = c.before.before.before in
     let a = b.before.before.args in (
       search rules,
-      b.loop.invariant.1 ∙ rw (entries-ok-from a.count a.book.now b.loop.i c.before.before.loop-test.true, passed c.before.entry-ok.ensures c.if1.false),
+      b.loop.invariant.1 ∙ rw (entries_ok-from a.count a.book.now b.loop.i c.before.before.loop-test.true, passed c.before.entry-ok.ensures c.if1.false),
     )
 
 returns-2 : tie.Need-returns-2 invariant-loop decreases-loop
-unfolding entriesOk
+unfolding entries_ok
 returns-2 c =
     let b = c.before in
     let a = b.before.before.args in

@@ -1,7 +1,7 @@
 -- `words::entry_ok` meets its contract. Assumes nothing.
 use mathlib.Core.Path.{sym, ◌∙◌}
 use borrow.Author.Rules.{rules}
-use Rattle.words.proofs.BookCode.{entry-ok-at}
+use Rattle.words.proofs.BookCode.{entry_ok-at}
 use Rattle.words.proofs.entry_ok.Statement.{statement}
 use Rattle.words.proofs.entry_ok.Tie as tie
 
@@ -53,7 +53,7 @@ words-ok-requires c κs = search rules
 returns : tie.Need-returns
 returns c =
     let a = c.before.before.before.before.before.before.before.args in
-    c.words-ok.ensures ∙ sym (entry-ok-at a.book.now a.at)
+    c.words-ok.ensures ∙ sym (entry_ok-at a.book.now a.at)
 
 pub entry-ok-spec : {M : Type 1} → statement M
 entry-ok-spec =

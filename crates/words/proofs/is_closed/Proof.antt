@@ -7,8 +7,8 @@ use native.Mathlib.Omega.{arith}
 use lib.ListN.{length, drop}
 use borrow.Author.Rules.{rules}
 use Rattle.numbers.specs.Tests.{any}
-use Rattle.rules.specs.Words.{readEntries, entries, countOf}
-use Rattle.rules.specs.Book.{isClosed}
+use Rattle.rules.specs.Words.{read_entries, entries, count_of}
+use Rattle.rules.specs.Book.{is_closed}
 use Rattle.words.proofs.BookCode.{book-long, book-within, closed-from}
 use Rattle.words.proofs.is_closed.Statement.{statement}
 use Rattle.words.proofs.is_closed.Tie as tie
@@ -17,7 +17,7 @@ abbrev invariant-loop : tie.invariant-loop
 invariant-loop book day count i₀ i =
     (i ≤ count)
     × (3 + 5 * count ≤ length book)
-    × (isClosed day (entries book) ≡ isClosed day (readEntries (count - i) (drop (3 + 5 * i) book)))
+    × (is_closed day (entries book) ≡ is_closed day (read_entries (count - i) (drop (3 + 5 * i) book)))
 
 abbrev decreases-loop : tie.decreases-loop
 decreases-loop book day count i₀ i = count - i
@@ -32,7 +32,7 @@ loop-holds : tie.Need-loop-init invariant-loop decreases-loop
 unfolding entries
 loop-holds c =
     let ws = c.before.before.args.book.now in
-    (search rules, book-within ws c.before.before.requires, rw (sub-zero (countOf ws)))
+    (search rules, book-within ws c.before.before.requires, rw (sub-zero (count_of ws)))
 
 mul-is-mark-of : tie.Need-overflow-mul-is-mark-of invariant-loop decreases-loop
 mul-is-mark-of c = search rules
@@ -48,7 +48,7 @@ returns c =
     let b = c.before.before.before in
     let a = b.before.before.before.args in
     let ws = a.book.now in
-    sym (b.loop.invariant.2 ∙ rw (closed-from a.day (countOf ws) ws b.loop.i c.before.before.loop-test.true, sym c.before.is-mark-of.ensures ∙ c.if1.true))
+    sym (b.loop.invariant.2 ∙ rw (closed-from a.day (count_of ws) ws b.loop.i c.before.before.loop-test.true, sym c.before.is-mark-of.ensures ∙ c.if1.true))
 
 add-i : tie.Need-overflow-add-i invariant-loop decreases-loop
 add-i c = search rules
@@ -63,15 +63,15 @@ loop-again c =
     let ws = a.book.now in (
       search rules,
       b.loop.invariant.1,
-      b.loop.invariant.2 ∙ rw (closed-from a.day (countOf ws) ws b.loop.i c.before.before.loop-test.true, sym c.before.is-mark-of.ensures ∙ c.if1.false),
+      b.loop.invariant.2 ∙ rw (closed-from a.day (count_of ws) ws b.loop.i c.before.before.loop-test.true, sym c.before.is-mark-of.ensures ∙ c.if1.false),
     )
 
 returns-2 : tie.Need-returns-2 invariant-loop decreases-loop
-unfolding isClosed any readEntries
+unfolding is_closed any read_entries
 returns-2 c =
     let b = c.before in
     let ws = b.before.before.before.args.book.now in
-    let z : countOf ws - b.loop.i ≡ 0 = omega arith in
+    let z : count_of ws - b.loop.i ≡ 0 = omega arith in
     sym (b.loop.invariant.2 ∙ rw z)
 
 pub is-closed-spec : {M : Type 1} → statement M

@@ -4,9 +4,9 @@ use Prim.Native.Nat.{ℕ}
 use lib.ListN.{drop}
 use borrow.Author.Tests.{ne_eqb}
 use borrow.Author.Rules.{rules}
-use Rattle.rules.specs.Entry.{Record, keyIn, key}
+use Rattle.rules.specs.Entry.{Record, key_in, key}
 use Rattle.rules.specs.Words.{decode}
-use Rattle.rules.specs.Book.{shutTo}
+use Rattle.rules.specs.Book.{shut_to}
 use Rattle.words.specs.Parts.{kept}
 use Rattle.words.proofs.kept_at.Statement.{statement}
 use Rattle.words.proofs.kept_at.Tie as tie
@@ -19,8 +19,8 @@ module _ (r : tie.After-read-at) where
   status-is : r.read_at.result.status ≡ held.label.status
   status-is = ap (λ e. e.status) r.read_at.ensures
 
-  key-is : keyIn r.read_at.result.key ≡ key held
-  key-is = ap (λ e. keyIn e.key) r.read_at.ensures
+  key-is : key_in r.read_at.result.key ≡ key held
+  key-is = ap (λ e. key_in e.key) r.read_at.ensures
 
   type-is : r.read_at.result.key.entry_type ≡ (key held).type
   type-is = ap (λ e. e.key.entry_type) r.read_at.ensures
@@ -33,7 +33,7 @@ unfolding kept
 returns c = rw (← status-is c.before.before, ne_eqb _ 0 c.if1.true)
 
 returns-2 : tie.Need-returns-2
-unfolding kept shutTo
+unfolding kept shut_to
 returns-2 c =
     let f = c.before.before in
     let r = f.before.before in

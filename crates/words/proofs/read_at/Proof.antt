@@ -1,7 +1,7 @@
 -- `words::read_at` meets its contract. Assumes nothing.
 use mathlib.Core.Path.{◌≡◌, sym, ap, ◌∙◌}
 use borrow.Author.Rules.{rules}
-use Rattle.rules.specs.Entry.{entryOf}
+use Rattle.rules.specs.Entry.{entry_of}
 use Rattle.words.proofs.BookCode.{decode-at}
 use Rattle.words.proofs.read_at.Statement.{statement}
 use Rattle.words.proofs.read_at.Tie as tie
@@ -54,7 +54,7 @@ entry-of-requires c κs = search rules
 returns : tie.Need-returns
 returns c =
     let a = c.before.before.before.before.before.before.before.args in
-    c.entry_of.ensures ∙ ap entryOf (sym (decode-at a.book.now a.at))
+    c.entry_of.ensures ∙ ap entry_of (sym (decode-at a.book.now a.at))
 
 pub read-at-spec : {M : Type 1} → statement M
 read-at-spec =

@@ -1,6 +1,6 @@
 -- `words::shut_to` meets its contract. Assumes nothing.
 use borrow.Author.Rules.{rules}
-use Rattle.rules.specs.Book.{shutTo}
+use Rattle.rules.specs.Book.{shut_to}
 use Rattle.entry_checks.proofs.Ladder.{passed, failed}
 use Rattle.words.proofs.shut_to.Statement.{statement}
 use Rattle.words.proofs.shut_to.Tie as tie
@@ -9,14 +9,14 @@ is-bilateral-requires : tie.Need-is-bilateral-requires
 is-bilateral-requires c κs = search rules
 
 returns : tie.Need-returns
-unfolding shutTo
+unfolding shut_to
 returns c = rw (failed c.before.is-bilateral.ensures c.if1.true)
 
 is-closed-requires : tie.Need-is-closed-requires
 is-closed-requires c κs = search rules
 
 returns-2 : tie.Need-returns-2
-unfolding shutTo
+unfolding shut_to
 returns-2 c =
     let b = c.before in
     rw (passed b.before.is-bilateral.ensures b.if1.false) c.is-closed.ensures

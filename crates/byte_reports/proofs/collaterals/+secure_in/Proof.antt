@@ -2,7 +2,7 @@
 use borrow.Author.Rules.{rules}
 use Prim.Native.Nat.{ℕ, ◌<◌, ◌-◌}
 use lib.ListN.{length}
-use Rattle.word_bytes.specs.Coding.{neededFor}
+use Rattle.word_bytes.specs.Coding.{needed_for}
 use Rattle.word_bytes.proofs.CodingLaws.{needed-most}
 use borrow.Fn.Kinds.{In}
 use borrow.Fn.PlainCycle.{Measures, is, falls, and}
@@ -17,7 +17,7 @@ use Rattle.byte_reports.proofs.collaterals.+secure_in.{statement}
 use Rattle.byte_reports.proofs.collaterals.+secure_in.Tie.{close}
 
 abbrev μ-secure-in : Measures 2 secure-in-kinds.ps ℕ
-μ-secure-in κs a = neededFor 0 a.1.0.now - length a.0.now
+μ-secure-in κs a = needed_for 0 a.1.0.now - length a.0.now
 
 abbrev secure-in-at : ℕ → In 2 secure-in-kinds.ps
 secure-in-at t = and 2 secure-in-kinds.ps (is 2 secure-in-kinds.ps μ-secure-in t) secure-in.Pre

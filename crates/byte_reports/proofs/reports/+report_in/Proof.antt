@@ -2,7 +2,7 @@
 use borrow.Author.Rules.{rules}
 use Prim.Native.Nat.{ℕ, ◌<◌, ◌-◌}
 use lib.ListN.{length}
-use Rattle.word_bytes.specs.Coding.{neededFor}
+use Rattle.word_bytes.specs.Coding.{needed_for}
 use Rattle.word_bytes.proofs.CodingLaws.{needed-most}
 use borrow.Fn.Kinds.{In}
 use borrow.Fn.PlainCycle.{Measures, is, falls, and}
@@ -17,7 +17,7 @@ use Rattle.byte_reports.proofs.reports.+report_in.{statement}
 use Rattle.byte_reports.proofs.reports.+report_in.Tie.{close}
 
 abbrev μ-report-in : Measures 3 report-in-kinds.ps ℕ
-μ-report-in κs a = neededFor 0 a.1.0.now - length a.0.now
+μ-report-in κs a = needed_for 0 a.1.0.now - length a.0.now
 
 abbrev report-in-at : ℕ → In 3 report-in-kinds.ps
 report-in-at t = and 3 report-in-kinds.ps (is 3 report-in-kinds.ps μ-report-in t) report-in.Pre

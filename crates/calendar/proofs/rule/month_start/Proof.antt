@@ -3,13 +3,13 @@ use mathlib.Core.Path.{◌≡◌, sym}
 use Prim.Native.Nat.{ℕ, ◌≤◌}
 use native.Mathlib.Omega.{arith}
 use borrow.Author.Rules.{rules}
-use Rattle.calendar.specs.Calendar.{leapDays}
-use Rattle.calendar.proofs.RuleLaws.{byRule, leap-most, from-march-1999, start-by-rule}
+use Rattle.calendar.specs.Calendar.{leap_days}
+use Rattle.calendar.proofs.RuleLaws.{by_rule, leap-most, from-march-1999, start-by-rule}
 use Rattle.calendar.proofs.rule.month_start.Statement.{statement}
 use Rattle.calendar.proofs.rule.month_start.Tie as tie
 
 -- the leap days that the call gave are at most one a year
-few : {n r : ℕ} → r ≡ leapDays n → r ≤ n
+few : {n r : ℕ} → r ≡ leap_days n → r ≤ n
 few {n} e = rw e (leap-most n)
 
 add-years : tie.Need-overflow-add-years
@@ -43,7 +43,7 @@ sub-result : tie.Need-overflow-sub-result
 sub-result c = from-march-1999 _ _ _ (λ z. omega arith)
 
 returns : tie.Need-returns
-unfolding byRule
+unfolding by_rule
 returns c = rw c.leap-days.ensures (sym (start-by-rule c.before.args.month))
 
 pub month-start-spec : {M : Type 1} → statement M

@@ -3,14 +3,14 @@ use mathlib.Core.Path.{◌≡◌, ◌∙◌, sym}
 use Prim.Native.Nat.{◌≤◌}
 use native.Mathlib.Omega.{arith}
 use lib.ListN.{length, take, drop}
-use Rattle.rules.specs.Collateral.{highestPrice}
+use Rattle.rules.specs.Collateral.{highest_price}
 use Rattle.collateral.proofs.UsedMonths.{none_left, highest-more}
 use borrow.Author.Rules.{rules}
 use Rattle.collateral.proofs.months.highest_price.Statement.{statement}
 use Rattle.collateral.proofs.months.highest_price.Tie as tie
 
 abbrev invariant-loop : tie.invariant-loop
-invariant-loop used months price₀ i₀ price i = (i ≤ used) × (price ≡ highestPrice (drop i (take used months)))
+invariant-loop used months price₀ i₀ price i = (i ≤ used) × (price ≡ highest_price (drop i (take used months)))
 
 abbrev decreases-loop : tie.decreases-loop
 decreases-loop used months price₀ i₀ price i = i
@@ -20,7 +20,7 @@ fits : (s : tie.Start invariant-loop decreases-loop) → s.args.used ≤ length 
 fits s = rw s.well-formed.0.1.0.1 s.requires
 
 loop-holds : tie.Need-loop-init invariant-loop decreases-loop
-unfolding highestPrice
+unfolding highest_price
 loop-holds c =
     (search rules, sym (rw (none_left c.args.t1 c.args.used (fits c))))
 

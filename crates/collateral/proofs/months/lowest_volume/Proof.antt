@@ -5,7 +5,7 @@ use native.Mathlib.Omega.{arith}
 use lib.ListN.{length, take, drop}
 use mir.Syntax.{w64}
 use mir.Val.{to_z}
-use Rattle.collateral.specs.Months.{lowestOf}
+use Rattle.collateral.specs.Months.{lowest_of}
 use Rattle.collateral.proofs.UsedMonths.{volume-back, lowest-last, lowest-more}
 use Rattle.numbers.specs.Signed.{lower}
 use borrow.Author.Rules.{rules}
@@ -13,13 +13,13 @@ use Rattle.collateral.proofs.months.lowest_volume.Statement.{statement}
 use Rattle.collateral.proofs.months.lowest_volume.Tie as tie
 
 abbrev invariant-loop : tie.invariant-loop
-invariant-loop used months i₀ volume₀ i volume = (i < used) × (to_z w64 volume ≡ lowestOf (drop i (take used months)))
+invariant-loop used months i₀ volume₀ i volume = (i < used) × (to_z w64 volume ≡ lowest_of (drop i (take used months)))
 
 abbrev decreases-loop : tie.decreases-loop
 decreases-loop used months i₀ volume₀ i volume = i
 
 returns : tie.Need-returns invariant-loop decreases-loop
-unfolding lowestOf
+unfolding lowest_of
 returns c = rw c.if1.true
 
 sub-i : tie.Need-overflow-sub-i invariant-loop decreases-loop

@@ -1,6 +1,6 @@
 -- `collateral::months::months_ok` meets its contract. Assumes nothing.
-use Rattle.rules.specs.Collateral.{monthOk}
-use Rattle.case_figures.specs.CaseFigures.{noMonth}
+use Rattle.rules.specs.Collateral.{month_ok}
+use Rattle.case_figures.specs.CaseFigures.{no_month}
 use Rattle.collateral.proofs.UsedMonths.{three-used}
 use borrow.Author.Rules.{rules}
 use Rattle.collateral.proofs.months.months_ok.Statement.{statement}
@@ -27,7 +27,7 @@ month-ok-requires-3 c κs = search rules
 returns : tie.Need-returns
 returns c =
     let s = c.before.before.before.before.before.before in
-    three-used monthOk s.args.t1 noMonth s.args.used s.well-formed.0.1.0.1
+    three-used month_ok s.args.t1 no_month s.args.used s.well-formed.0.1.0.1
     c.before.before.month-ok.ensures c.before.month-ok2.ensures c.month-ok3.ensures
 
 pub months-ok-spec : {M : Type 1} → statement M

@@ -1,5 +1,5 @@
 -- `collateral::ranges::figures_ok` meets its contract. Assumes nothing.
-use Rattle.rules.specs.Collateral.{figuresOk}
+use Rattle.rules.specs.Collateral.{figures_ok}
 use borrow.Author.Rules.{rules}
 use Rattle.collateral.proofs.ranges.figures_ok.Statement.{statement}
 use Rattle.collateral.proofs.ranges.figures_ok.Tie as tie
@@ -8,7 +8,7 @@ months-ok-requires : tie.Need-months-ok-requires
 months-ok-requires c κs = search rules
 
 returns : tie.Need-returns
-unfolding figuresOk
+unfolding figures_ok
 returns c = rw c.before.before.before.before.before.before.months-ok.ensures
 
 pub figures-ok-spec : {M : Type 1} → statement M

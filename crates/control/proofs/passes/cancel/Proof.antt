@@ -6,8 +6,8 @@ use Prim.Native.Nat.{ℕ, ◌+◌, ◌-◌, ◌≤◌, ◌<◌}
 use native.Mathlib.Omega.{arith}
 use lib.ListN.{take}
 use Rattle.numbers.specs.Sums.{total, count}
-use Rattle.rules.specs.Words.{countOf, entries}
-use Rattle.rules.specs.Control.{isToCancel}
+use Rattle.rules.specs.Words.{count_of, entries}
+use Rattle.rules.specs.Control.{is_to_cancel}
 use Rattle.rules.proofs.WordLaws.{book-facts}
 use Rattle.words.proofs.BookCode.{Placed, book-long}
 use Rattle.cells.proofs.ScanLaws.{scan-few, scan-end}
@@ -20,7 +20,7 @@ use Rattle.control.proofs.passes.cancel.Tie as tie
 
 abbrev invariant-loop : tie.invariant-loop
 invariant-loop book₀ day flags last n₀ i₀ book n i =
-    (i ≤ last) × Through (flagged flags) day book₀ i book × (n ≡ count (isToCancel (flagged flags) day) (take i (entries book₀)))
+    (i ≤ last) × Through (flagged flags) day book₀ i book × (n ≡ count (is_to_cancel (flagged flags) day) (take i (entries book₀)))
 
 abbrev decreases-loop : tie.decreases-loop
 decreases-loop book₀ day flags last n₀ i₀ book n i = last - i
@@ -33,7 +33,7 @@ abbrev turn : tie.After-is-to-cancel invariant-loop decreases-loop → tie.In-lo
 turn q = q.before.before.before
 
 -- in a turn the number is that of an entry
-taken : (t : tie.In-loop invariant-loop decreases-loop) → t.before.loop.i < countOf (start t.before).args.book.now
+taken : (t : tie.In-loop invariant-loop decreases-loop) → t.before.loop.i < count_of (start t.before).args.book.now
 taken t = rw t.before.before.count_of.ensures at t.loop-test.true
 
 placed : (t : tie.In-loop invariant-loop decreases-loop) → Placed t.before.loop.book t.before.loop.i
@@ -72,7 +72,7 @@ add-n c =
     let t = turn c.before.before in
     let l = t.before in
     let a = (start l).args in
-    let n = count-few (isToCancel (flagged a.flags.now) a.day) l.loop.i (entries a.book.now) in
+    let n = count-few (is_to_cancel (flagged a.flags.now) a.day) l.loop.i (entries a.book.now) in
     omega (arith, l.loop.inv, n, taken t, scan-few a.book.now (start l).pre, one-most c.before.before.is-to-cancel.result c.one-if.ensures)
 
 add-i : tie.Need-overflow-add-i invariant-loop decreases-loop
@@ -97,7 +97,7 @@ loop-again c =
           (λ w. w.5 ∙ through-cancelled _ _ _ b _ (taken t) _ v.1 _ q (sym k.is-to-cancel.ensures ∙ w.0.taken) w.2.ensures)
           (λ w. w.1 ∙ through-kept _ _ _ b _ (taken t) _ v.1 _ q (sym k.is-to-cancel.ensures ∙ w.0.left))
           c.before.if1.branch,
-      ap₂ ◌+◌ v.2 (c.one-if.ensures ∙ ap {B = ℕ} (λ y. cond y 1 0) (k.is-to-cancel.ensures ∙ ap (isToCancel (flagged a.flags.now) a.day) r)) ∙ sym m,
+      ap₂ ◌+◌ v.2 (c.one-if.ensures ∙ ap {B = ℕ} (λ y. cond y 1 0) (k.is-to-cancel.ensures ∙ ap (is_to_cancel (flagged a.flags.now) a.day) r)) ∙ sym m,
     )
 
 same_length : tie.Need-same-length invariant-loop decreases-loop

@@ -1,13 +1,13 @@
 -- `control::passes::pass` meets its contract. Assumes nothing.
 use mathlib.Core.Path.{refl}
-use Rattle.repeated_pairs.specs.Flags.{noFlags}
+use Rattle.repeated_pairs.specs.Flags.{no_flags}
 use Rattle.control.proofs.RunLaws.{pass-counts, pass-words}
 use borrow.Author.Rules.{rules}
 use Rattle.control.proofs.passes.pass.Statement.{statement}
 use Rattle.control.proofs.passes.pass.Tie as tie
 
 flag-parties-requires : tie.Need-flag-parties-requires
-unfolding noFlags
+unfolding no_flags
 flag-parties-requires c κs = (c.before.before.before.requires, refl)
 
 count-requires : tie.Need-count-requires

@@ -7,9 +7,9 @@ use lib.Dec.{eqb}
 use lib.ListN.{length}
 use borrow.Author.Tests.{eq-eqb, ne_eqb}
 use Rattle.numbers.specs.Tests.{all}
-use Rattle.rules.specs.Entry.{keyIn, recordOf, legal, standing}
+use Rattle.rules.specs.Entry.{key_in, record_of, legal, standing}
 use Rattle.rules.specs.DayFile.{lines_of}
-use Rattle.dayfile.specs.Stored.{storedFrom}
+use Rattle.dayfile.specs.Stored.{stored_from}
 use Rattle.file_walk.proofs.WalkLaws.{line-whole}
 use Rattle.dayfile.proofs.PostLaws.{no-line-stored, one-line-stored, one-line-legal}
 use borrow.Author.Rules.{rules}
@@ -50,7 +50,7 @@ store-entry-requires c κs =
     let e = t.before in
     let a = (entry e).args in (
       room e,
-      sym (and-true (legal (recordOf (keyIn l.key) standing l.amount))) ∙ one-line-legal a.file.now a.c e.if1.false l t.line_at_lem.ensures (entry e).requires.1.1,
+      sym (and-true (legal (record_of (key_in l.key) standing l.amount))) ∙ one-line-legal a.file.now a.c e.if1.false l t.line_at_lem.ensures (entry e).requires.1.1,
     )
 
 add-result : tie.Need-overflow-add-result
@@ -62,7 +62,7 @@ same_length : tie.Need-same-length
 same_length c = search rules
 
 returns-2 : tie.Need-returns-2
-unfolding storedFrom
+unfolding stored_from
 returns-2 c =
     let s = c.before.before in
     let t = line s in

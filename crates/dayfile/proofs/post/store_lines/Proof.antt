@@ -7,8 +7,8 @@ use lib.ListN.{length}
 use Rattle.numbers.specs.Tests.{all}
 use Rattle.rules.specs.Entry.{legal}
 use Rattle.rules.specs.DayFile.{items, lines_of}
-use Rattle.file_walk.specs.Walk.{isMore, leftItems}
-use Rattle.dayfile.specs.Stored.{storedFrom}
+use Rattle.file_walk.specs.Walk.{is_more, left_items}
+use Rattle.dayfile.specs.Stored.{stored_from}
 use Rattle.file_walk.proofs.WalkLaws.{items-end, past-within, walk-less}
 use Rattle.file_check.proofs.CheckLaws.{lines_step}
 use Rattle.dayfile.proofs.PostLaws.{stored-step, legal-step}
@@ -20,9 +20,9 @@ abbrev invariant-loop : tie.invariant-loop
 invariant-loop book₀ file number c₀ place₀ book c place =
     (c.at ≤ length file)
     × (length book ≡ length book₀)
-    × (place + 5 * length (lines_of (leftItems file c)) ≤ length book₀)
-    × (all legal (lines_of (leftItems file c)) ≡ true)
-    × (storedFrom book₀ (3 + 5 * number) (items file) ≡ storedFrom book place (leftItems file c))
+    × (place + 5 * length (lines_of (left_items file c)) ≤ length book₀)
+    × (all legal (lines_of (left_items file c)) ≡ true)
+    × (stored_from book₀ (3 + 5 * number) (items file) ≡ stored_from book place (left_items file c))
 
 abbrev decreases-loop : tie.decreases-loop
 decreases-loop book₀ file number c₀ place₀ book c place = length file - c.at
@@ -32,7 +32,7 @@ module _ (t : tie.Then1 invariant-loop decreases-loop) where
   abbrev turn : tie.At-loop invariant-loop decreases-loop
   turn = t.before.before
 
-  more : isMore turn.before.before.before.before.args.file.now turn.loop.c ≡ true
+  more : is_more turn.before.before.before.before.args.file.now turn.loop.c ≡ true
   more = sym t.before.more.ensures ∙ t.if1.taken
 
 begin-requires : tie.Need-begin-requires invariant-loop decreases-loop
@@ -79,7 +79,7 @@ same_length : tie.Need-same-length invariant-loop decreases-loop
 same_length c = c.before.before.loop.invariant.1
 
 returns : tie.Need-returns invariant-loop decreases-loop
-unfolding storedFrom
+unfolding stored_from
 returns c =
     let l = c.before.before in
     sym (l.loop.invariant.4 ∙ rw (items-end _ _ (sym c.before.more.ensures ∙ c.if1.false)))

@@ -1,6 +1,6 @@
 -- `detection::sums::add_entry` meets its contract. Assumes nothing.
 use native.Mathlib.Omega.{arith}
-use Rattle.rules.specs.Entry.{key, recordIn}
+use Rattle.rules.specs.Entry.{key, record_in}
 use Rattle.detection.proofs.TableLaws.{type-most, side-few, Adds, adds, add-fits, add-fits-again, added_is}
 use borrow.Author.Rules.{rules}
 use Rattle.detection.proofs.sums.add_entry.Statement.{statement}
@@ -10,7 +10,7 @@ use Rattle.detection.proofs.sums.add_entry.Tie as tie
 abbrev start : tie.After-sold-amount → tie.Start
 start c = c.before.before.before
 
-facts : (c : tie.After-sold-amount) → Adds (recordIn (start c).args.e) c.before.read-amount.result c.sold-amount.result
+facts : (c : tie.After-sold-amount) → Adds (record_in (start c).args.e) c.before.read-amount.result c.sold-amount.result
 facts c = search adds
 
 side-of-requires : tie.Need-side-of-requires
@@ -32,13 +32,13 @@ add-add-to : tie.Need-overflow-add-add-to
 add-add-to c =
     let f = facts c.before.before in
     let o = c.before.before.before.before in
-    omega (arith, o.side-of.ensures, side-few (key (recordIn o.before.args.e)).type)
+    omega (arith, o.side-of.ensures, side-few (key (record_in o.before.args.e)).type)
 
 add-to-requires : tie.Need-add-to-requires
 add-to-requires c κs =
     let f = facts c.before.before in
     let o = c.before.before.before.before in
-    add-fits _ o.before.requires.1 _ _ (omega (arith, o.side-of.ensures, side-few (key (recordIn o.before.args.e)).type)) f.own
+    add-fits _ o.before.requires.1 _ _ (omega (arith, o.side-of.ensures, side-few (key (record_in o.before.args.e)).type)) f.own
 
 cast-add-to-2 : tie.Need-overflow-cast-add-to-2
 cast-add-to-2 c = search rules

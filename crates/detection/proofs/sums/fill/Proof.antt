@@ -2,14 +2,14 @@
 use Prim.Native.Nat.{◌-◌}
 use Rattle.cells.specs.Cells.{added, blank, filled}
 use Rattle.cells.proofs.ScanLaws.{Scanned, scan, scan-below}
-use Rattle.detection.specs.Tables.{dayCells, tableCells, table_of}
+use Rattle.detection.specs.Tables.{day_cells, table_cells, table_of}
 use Rattle.detection.proofs.TableLaws.{day-limited}
 use borrow.Author.Rules.{rules}
 use Rattle.detection.proofs.sums.fill.Statement.{statement}
 use Rattle.detection.proofs.sums.fill.Tie as tie
 
 abbrev invariant-loop : tie.invariant-loop
-invariant-loop book day table₀ count i₀ table i = Scanned (added (dayCells day)) (blank tableCells) book count i table
+invariant-loop book day table₀ count i₀ table i = Scanned (added (day_cells day)) (blank table_cells) book count i table
 
 abbrev decreases-loop : tie.decreases-loop
 decreases-loop book day table₀ count i₀ table i = count - i
@@ -36,7 +36,7 @@ add-entry-requires : tie.Need-add-entry-requires invariant-loop decreases-loop
 add-entry-requires c κs =
     let l = c.before.before.before in
     let s = l.before.before.before in
-    (search scan, scan-below s.args.book.now s.requires.0 tableCells (day-limited s.args.day) l.before.count_of.ensures l.loop.invariant)
+    (search scan, scan-below s.args.book.now s.requires.0 table_cells (day-limited s.args.day) l.before.count_of.ensures l.loop.invariant)
 
 add-i : tie.Need-overflow-add-i invariant-loop decreases-loop
 add-i c = search rules

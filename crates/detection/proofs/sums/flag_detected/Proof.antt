@@ -3,14 +3,14 @@ use mathlib.Core.Logic.{⊎_elim}
 use Prim.Native.Nat.{◌-◌, ◌≤◌}
 use native.Mathlib.Omega.{arith}
 use Rattle.repeated_pairs.proofs.FlagLaws.{Below, below-start, below_set, below-skip, below_end}
-use Rattle.detection.specs.Tables.{detectedAmong}
-use Rattle.detection.proofs.BelowLaws.{detected-none, detected-past, detected-asked, detected-not-asked}
+use Rattle.detection.specs.Tables.{detected_among}
+use Rattle.detection.proofs.BelowLaws.{detected-none, detected-past, detected-asked, detected-not_asked}
 use borrow.Author.Rules.{rules}
 use Rattle.detection.proofs.sums.flag_detected.Statement.{statement}
 use Rattle.detection.proofs.sums.flag_detected.Tie as tie
 
 abbrev invariant-loop : tie.invariant-loop
-invariant-loop table coefficient tolerance among flags₀ p₀ flags p = (1 ≤ p) × (p ≤ 1000) × Below p (detectedAmong table coefficient tolerance among) flags
+invariant-loop table coefficient tolerance among flags₀ p₀ flags p = (1 ≤ p) × (p ≤ 1000) × Below p (detected_among table coefficient tolerance among) flags
 
 abbrev decreases-loop : tie.decreases-loop
 decreases-loop table coefficient tolerance among flags₀ p₀ flags p = 1000 - p
@@ -45,7 +45,7 @@ loop-again c =
       ⊎_elim
           (λ w. rw w.2 (below_set _ l.loop.p l.loop.flags b w.1.result (omega arith)
           (detected-asked a.table.now a.coefficient a.tolerance a.among.now l.loop.p w.1.result w.0.taken l.loop.invariant.0 (omega arith) w.1.ensures)))
-          (λ w. rw w.1 (below-skip _ l.loop.p l.loop.flags b (detected-not-asked a.table.now a.coefficient a.tolerance a.among.now l.loop.p w.0.left)))
+          (λ w. rw w.1 (below-skip _ l.loop.p l.loop.flags b (detected-not_asked a.table.now a.coefficient a.tolerance a.among.now l.loop.p w.0.left)))
           c.if1.branch,
     )
 

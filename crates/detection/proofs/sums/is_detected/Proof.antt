@@ -2,7 +2,7 @@
 use native.Mathlib.Omega.{arith}
 use mir.Syntax.{w64}
 use mir.ValLaws.{to_z-of_z}
-use Rattle.detection.specs.Tables.{coverPlace, cell_of, aheadAt}
+use Rattle.detection.specs.Tables.{cover_place, cell_of, ahead_at}
 use Rattle.detection.proofs.BelowLaws.{no-sales}
 use borrow.Author.Rules.{rules}
 use Rattle.detection.proofs.sums.is_detected.Statement.{statement}
@@ -60,19 +60,19 @@ larger-requires c κs = search rules
 add-cover-2 : tie.Need-overflow-add-cover-2
 add-cover-2 c =
     let w = (start c).requires.1.0 in
-    omega (arith, c.larger.ensures, w.at_most (cell_of (start c).args.party coverPlace), w.at_most (cell_of (start c).args.party 2), w.at_most (cell_of (start c).args.party 3))
+    omega (arith, c.larger.ensures, w.at_most (cell_of (start c).args.party cover_place), w.at_most (cell_of (start c).args.party 2), w.at_most (cell_of (start c).args.party 3))
 
 balanced-requires : tie.Need-balanced-requires
 balanced-requires c κs =
     let w = (start c).requires.1.0 in
     let p = (start c).args.party in
-    omega (arith, c.larger.ensures, w.at_most (cell_of p 0), w.at_most (cell_of p coverPlace), w.at_most (cell_of p 2), w.at_most (cell_of p 3))
+    omega (arith, c.larger.ensures, w.at_most (cell_of p 0), w.at_most (cell_of p cover_place), w.at_most (cell_of p 2), w.at_most (cell_of p 3))
 
 detected-requires : tie.Need-detected-requires
 detected-requires c κs = search rules
 
 returns-2 : tie.Need-returns-2
-unfolding aheadAt
+unfolding ahead_at
 returns-2 c =
     let b = c.before in
     rw (c.detected.ensures, to_z-of_z w64 b.balanced.result (record { sfits = b.balanced.type-inv }), b.balanced.ensures, b.before.larger.ensures)

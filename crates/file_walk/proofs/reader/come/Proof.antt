@@ -22,7 +22,7 @@ use types.Run.{look, init, forget, stop, fld, from, load, of_opd, assigns, retur
 use sound.WpLaws.{WpFn-mono}
 use denote.RattleType.{RattleType, owns}
 use denote.Laws.{Is}
-use denote.Plain.{uint_Makes}
+use denote.Plain.{uint_makes}
 use denote.Builtin.{usize}
 use denote.Signature.{named_lft}
 use denote.Steps.{owned}
@@ -30,7 +30,7 @@ use denote.Struct.Laws as LL
 use denote.Triple.Entry.{on_entry}
 use denote.Triple.Spec.{Meets, triple_of}
 use denote.Triple.Table.{entered}
-use denote.Triple.Walked.{says, Stays, stay_none, walk_of, Goes-none, Walks, ends_at, walked, walk_Meets}
+use denote.Triple.Walked.{says, Stays, stay_none, walk_of, Goes-none, Walks, ends_at, walked, walk_meets}
 use denote.Exit.{yes}
 use Rattle.file_walk.specs.declared.reader.Reader.{Reader}
 use Rattle.file_walk.specs.contracts.reader.Reader as T
@@ -60,7 +60,7 @@ module _ {M : Type 1} {𝓤 : Ura M} (𝓛 : Logic 𝓤) (mem : Memory → SProp
   exits g =
       qed 𝓛 ((‵ (flft κ q) ⊛ ‵ ftrue) ∷ ‵ (owns (B (κ, tt) ∷ []) (d, tt) (mach ∷ [], tt)) ∷ []) ∵
       suffices ! _ (ends_at 𝓛 come.ended stayed (come.clauses 𝓛 mem run) (((κ, tt), (q, tt), tt, (d, tt), (mach ∷ [], tt)), tt) (vint w64 d.at) d.at (tt, tt) (tt, tt)) $ says ! refl $
-      frame ! $ frame ! $ owned ! usize (Is usize) (uint_Makes 𝓛 w64) d.at _ (refl, g) $ done !
+      frame ! $ frame ! $ owned ! usize (Is usize) (uint_makes 𝓛 w64) d.at _ (refl, g) $ done !
 
   module _ (C : Calls 𝓤 H) (Λ : Loops 𝓤 H) where
     walk : Is (B (κ, tt)) d (mach ∷ []) → ent 𝓤 (on_entry 𝓛 come.signature (κ, tt) (q, tt) (d, tt) (mach ∷ [], tt)) (WpFn 𝓤 H C Λ code.function (mach ∷ []) Post)
@@ -80,7 +80,7 @@ module _ {M : Type 1} {𝓤 : Ura M} (𝓛 : Logic 𝓤) (mem : Memory → SProp
 
 come-meets : {M : Type 1} {𝓤 : Ura M} (𝓛 : Logic 𝓤) → (mem : Memory → SProp 𝓤) (run : Routine → Fun 𝓤) (𝓣 : Tables 𝓤 𝓛.H)
     → Meets 𝓛 come.signature (WpFn 𝓤 𝓛.H 𝓣.C 𝓣.Λ code.function) (come.spec 𝓛 mem run)
-come-meets {𝓤 = 𝓤} 𝓛 mem run 𝓣 = walk_Meets 𝓛 come.ended stayed (Goes-none 𝓛 1 B yes (λ κs x f. refl), tt) (come.clauses 𝓛 mem run) (WpFn 𝓤 𝓛.H 𝓣.C 𝓣.Λ code.function) (WpFn-mono 𝓤 𝓛.H 𝓛.laws 𝓣 code.function) (come-walks 𝓛 mem run 𝓣.C 𝓣.Λ)
+come-meets {𝓤 = 𝓤} 𝓛 mem run 𝓣 = walk_meets 𝓛 come.ended stayed (Goes-none 𝓛 1 B yes (λ κs x f. refl), tt) (come.clauses 𝓛 mem run) (WpFn 𝓤 𝓛.H 𝓣.C 𝓣.Λ code.function) (WpFn-mono 𝓤 𝓛.H 𝓛.laws 𝓣 code.function) (come-walks 𝓛 mem run 𝓣.C 𝓣.Λ)
 
 pub come-spec : {M : Type 1} → stated.statement M
 unfolding code.routine tables_of

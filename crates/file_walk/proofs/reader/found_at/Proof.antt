@@ -4,16 +4,16 @@ use native.Mathlib.Omega.{arith}
 use lib.ListN.{length}
 use borrow.Author.Tests.{le-leb, lt-leb}
 use borrow.Author.Rules.{rules}
-use Rattle.file_walk.specs.Read.{foundAt}
+use Rattle.file_walk.specs.Read.{found_at}
 use Rattle.file_walk.proofs.reader.found_at.Statement.{statement}
 use Rattle.file_walk.proofs.reader.found_at.Tie as tie
 
 returns : tie.Need-returns
-unfolding foundAt
+unfolding found_at
 returns c = rw (lt-leb (c.before.before.args.at + 4) (length c.before.before.args.bytes.now) (omega arith))
 
 returns-2 : tie.Need-returns-2
-unfolding foundAt
+unfolding found_at
 returns-2 c = rw (lt-leb (c.before.before.before.args.at + 4) (length c.before.before.before.args.bytes.now) (omega arith))
 
 word-at-requires : tie.Need-word-at-requires
@@ -23,7 +23,7 @@ add-t5 : tie.Need-overflow-add-t5
 add-t5 c = search rules
 
 returns-3 : tie.Need-returns-3
-unfolding foundAt
+unfolding found_at
 returns-3 c =
     let a = c.before.before.before.before.args in
     rw (le-leb (a.at + 4) (length a.bytes.now) (omega arith), c.word-at.ensures)

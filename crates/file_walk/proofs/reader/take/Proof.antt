@@ -25,7 +25,7 @@ use types.Run.{look, init, forget, stop, fld, from, load, of_opd, and_then, no_m
 use sound.WpLaws.{FmC, fm_of, WpFn-mono}
 use denote.RattleType.{RattleType, owns}
 use denote.Laws.{Is}
-use denote.Plain.{uint_Makes, bool_Makes}
+use denote.Plain.{uint_makes, bool_makes}
 use denote.Builtin.{u8, u32, usize, bool}
 use denote.Signature.{named_lft}
 use denote.Slice.{slice_val, ShrSlice}
@@ -38,10 +38,10 @@ use denote.Triple.Statement.{Contract, Triple}
 use denote.Triple.Entry.{Vals, on_entry}
 use denote.Triple.Spec.{Meets, triple_of}
 use denote.Triple.Table.{entered, cited}
-use denote.Triple.Walked.{says, Stays, stay_none, walk_of, Goes-none, Walks, ends_at, walked, walk_Meets}
+use denote.Triple.Walked.{says, Stays, stay_none, walk_of, Goes-none, Walks, ends_at, walked, walk_meets}
 use denote.Exit.{yes}
 use denote.Triple.Clauses.{ensured, lasts}
-use Rattle.file_walk.specs.Read.{foundAt, movedBy}
+use Rattle.file_walk.specs.Read.{found_at, moved_by}
 use Rattle.file_walk.specs.declared.reader.Reader.{Reader}
 use Rattle.file_walk.specs.declared.reader.Found.{Found}
 use Rattle.file_walk.proofs.RunLaws.{hears}
@@ -83,7 +83,7 @@ module _ {M : Type 1} {𝓤 : Ura M} (𝓛 : Logic 𝓤) (mem : Memory → SProp
   v = slice_val d.bytes.ref_ptr (length d.bytes.now)
 
   abbrev there : Found
-  there = foundAt d.bytes.now d.at
+  there = found_at d.bytes.now d.at
 
   abbrev Post : Val → SProp 𝓤
   Post = (walk_of 𝓛 take.ended stayed (take.clauses 𝓛 mem run)).post (((κ, tt), (q, tt), tt, (d, tt), (mach ∷ [], tt)), tt)
@@ -124,7 +124,7 @@ module _ {M : Type 1} {𝓤 : Ura M} (𝓛 : Logic 𝓤) (mem : Memory → SProp
       move ! (1 ∷ []) $ fsplit ! $ move ! (1 ∷ []) $ drop ! $ use1 𝓛 (‵ Own ⊛ ‵ Own) ((LL.copy D (T'.the_copy (named_lft 1 0 tt (κ, tt))) 𝓛).twice d (mach ∷ [])) $ split ! $
       use1 𝓛 (given (mach ∷ [] ≡ mach ∷ []) (‵ (all_own D.parts L vd))) (own_open 𝓛 D L vd mach) $ learn ! (λ _. use1 𝓛 (‵ (field_own D.parts L 0 d.bytes) ⊛ ‵ (rest D.parts L 0 vd)) (own_out 𝓛 D.parts L 0 vd) $ split ! $
       -- [what bytes owns; what at owns; what the struct owns; the token]
-      move ! (1 ∷ []) $ drop ! $ nothing ! $ owned ! usize (Is usize) (uint_Makes 𝓛 w64) d.at _ (refl, fits) $ fjoin ! $ move ! (1 ∷ 0 ∷ []) $ fjoin ! $
+      move ! (1 ∷ []) $ drop ! $ nothing ! $ owned ! usize (Is usize) (uint_makes 𝓛 w64) d.at _ (refl, fits) $ fjoin ! $ move ! (1 ∷ 0 ∷ []) $ fjoin ! $
       move ! (2 ∷ 0 ∷ []) $ use2 𝓛 (raw ((FoundAt 𝓛 mem run).pre to)) asked $ frame ! $ done !)
 
   -- of the callee's `ensured`, the clause alone: it has no `&mut`, so what is said of last values is dropped
@@ -136,18 +136,18 @@ module _ {M : Type 1} {𝓤 : Ura M} (𝓛 : Logic 𝓤) (mem : Memory → SProp
   told r u is = ((LL.lawful F.the_type F'.the_laws 𝓛).typed r _ (LL.owes F.the_type F'.the_laws r (LL.owed F.the_type F'.the_laws r _ is))).0
 
   -- what the result owns: the reader's bytes, and the facts of what was found
-  result : (r : Found) → r.at < 2 ^ 64 → r.word < 2 ^ 32 → ent 𝓤 (sem 𝓛 Own) (sem 𝓛 ((G.the_row (named_lft 1 0 tt (κ, tt))).own_val (movedBy d r) (G'.lowered (movedBy d r) ∷ [])))
+  result : (r : Found) → r.at < 2 ^ 64 → r.word < 2 ^ 32 → ent 𝓤 (sem 𝓛 Own) (sem 𝓛 ((G.the_row (named_lft 1 0 tt (κ, tt))).own_val (moved_by d r) (G'.lowered (moved_by d r) ∷ [])))
   result r fits fits' =
       qed 𝓛 (‵ Own ∷ []) ∵
-      owned ! usize (Is usize) (uint_Makes 𝓛 w64) r.at _ (refl, fits) $ move ! (1 ∷ 0 ∷ []) $
-      use2 𝓛 (‵ ((B (κ, tt)).own (movedBy d r).reader (T'.lowered (movedBy d r).reader ∷ []))) (own_put 𝓛 D L 1 vd r.at mach) $
-      nothing ! $ owned ! u32 (Is u32) (uint_Makes 𝓛 w32) r.word _ (refl, fits') $ fjoin ! $ owned ! bool (Is bool) (bool_Makes 𝓛) r.whole _ refl $ fjoin ! $ move ! (1 ∷ 0 ∷ []) $ fjoin ! $
-      by ! (own_shut 𝓛 E EL ((movedBy d r).reader, (r.whole, (r.word, tt))))
+      owned ! usize (Is usize) (uint_makes 𝓛 w64) r.at _ (refl, fits) $ move ! (1 ∷ 0 ∷ []) $
+      use2 𝓛 (‵ ((B (κ, tt)).own (moved_by d r).reader (T'.lowered (moved_by d r).reader ∷ []))) (own_put 𝓛 D L 1 vd r.at mach) $
+      nothing ! $ owned ! u32 (Is u32) (uint_makes 𝓛 w32) r.word _ (refl, fits') $ fjoin ! $ owned ! bool (Is bool) (bool_makes 𝓛) r.whole _ refl $ fjoin ! $ move ! (1 ∷ 0 ∷ []) $ fjoin ! $
+      by ! (own_shut 𝓛 E EL ((moved_by d r).reader, (r.whole, (r.word, tt))))
 
-  exits : (r : Found) → r.at < 2 ^ 64 → r.word < 2 ^ 32 → r ≡ there → ent 𝓤 (⋆ 𝓛 ((‵ (flft κ q) ⊛ ‵ ftrue) ∷ ‵ Own ∷ [])) (Post (G'.lowered (movedBy d r)))
+  exits : (r : Found) → r.at < 2 ^ 64 → r.word < 2 ^ 32 → r ≡ there → ent 𝓤 (⋆ 𝓛 ((‵ (flft κ q) ⊛ ‵ ftrue) ∷ ‵ Own ∷ [])) (Post (G'.lowered (moved_by d r)))
   exits r fits fits' e =
       qed 𝓛 ((‵ (flft κ q) ⊛ ‵ ftrue) ∷ ‵ Own ∷ []) ∵
-      suffices ! _ (ends_at 𝓛 take.ended stayed (take.clauses 𝓛 mem run) (((κ, tt), (q, tt), tt, (d, tt), (mach ∷ [], tt)), tt) (G'.lowered (movedBy d r)) (movedBy d r) (tt, tt) (tt, tt)) $ says ! (ap (movedBy d) e) $
+      suffices ! _ (ends_at 𝓛 take.ended stayed (take.clauses 𝓛 mem run) (((κ, tt), (q, tt), tt, (d, tt), (mach ∷ [], tt)), tt) (G'.lowered (moved_by d r)) (moved_by d r) (tt, tt) (tt, tt)) $ says ! (ap (moved_by d) e) $
       frame ! $ use1 𝓛 (‵ Own ⊛ ‵ Own) ((LL.copy D (T'.the_copy (named_lft 1 0 tt (κ, tt))) 𝓛).twice d (mach ∷ [])) $ split ! $
       nothing ! $ move ! (1 ∷ 0 ∷ []) $ fjoin ! $ frame ! $ by ! (result r fits fits')
 
@@ -181,7 +181,7 @@ module _ {M : Type 1} {𝓤 : Ura M} (𝓛 : Logic 𝓤) (mem : Memory → SProp
 take_meets : {M : Type 1} {𝓤 : Ura M} (𝓛 : Logic 𝓤) (mem : Memory → SProp 𝓤) (run : Routine → Fun 𝓤) (𝓣 : Tables 𝓤 𝓛.H)
     → Triple 𝓤 (𝓣.C #file-walk·reader·found-at) (FoundAt 𝓛 mem run)
     → Meets 𝓛 take.signature (WpFn 𝓤 𝓛.H 𝓣.C 𝓣.Λ code.function) (take.spec 𝓛 mem run)
-take_meets {𝓤 = 𝓤} 𝓛 mem run 𝓣 known = walk_Meets 𝓛 take.ended stayed (Goes-none 𝓛 1 B yes (λ κs x f. refl), tt) (take.clauses 𝓛 mem run) (WpFn 𝓤 𝓛.H 𝓣.C 𝓣.Λ code.function) (WpFn-mono 𝓤 𝓛.H 𝓛.laws 𝓣 code.function)
+take_meets {𝓤 = 𝓤} 𝓛 mem run 𝓣 known = walk_meets 𝓛 take.ended stayed (Goes-none 𝓛 1 B yes (λ κs x f. refl), tt) (take.clauses 𝓛 mem run) (WpFn 𝓤 𝓛.H 𝓣.C 𝓣.Λ code.function) (WpFn-mono 𝓤 𝓛.H 𝓛.laws 𝓣 code.function)
     (take_walks 𝓛 mem run 𝓣.C 𝓣.Λ (fm_of 𝓤 𝓛.H 𝓛.laws 𝓣) known)
 
 pub take_spec : {M : Type 1} → stated.statement M

@@ -27,10 +27,10 @@ use denote.Triple.Statement.{Triple}
 use denote.Triple.Entry.{on_entry}
 use denote.Triple.Spec.{Meets, triple_of}
 use denote.Triple.Table.{entered, cited}
-use denote.Triple.Walked.{says, Stays, stay_none, walk_of, Goes-none, Walks, ends_at, walked, walk_Meets}
+use denote.Triple.Walked.{says, Stays, stay_none, walk_of, Goes-none, Walks, ends_at, walked, walk_meets}
 use denote.Exit.{yes}
 use denote.Triple.Clauses.{ensured}
-use Rattle.file_walk.specs.Read.{takenBy, head_of, twoBy}
+use Rattle.file_walk.specs.Read.{taken_by, head_of, two_by}
 use Rattle.file_walk.specs.declared.reader.Reader.{Reader}
 use Rattle.file_walk.specs.declared.reader.Taken.{Taken}
 use Rattle.file_walk.proofs.RunLaws.{hears}
@@ -72,7 +72,7 @@ module _ {M : Type 1} {𝓤 : Ura M} (𝓛 : Logic 𝓤) (mem : Memory → SProp
       move ! (1 ∷ []) $ fsplit ! $ move ! (1 ∷ []) $ drop ! $ use1 𝓛 (‵ (Own d) ⊛ ‵ (Own d)) ((LL.copy (T.the_type (α κ)) (T'.the_copy (α κ)) 𝓛).twice d (mach ∷ [])) $ split ! $
       move ! (0 ∷ 2 ∷ []) $ use2 𝓛 (raw ((Take 𝓛 mem run).pre (to_take 𝓛 mem run κ q d mach))) (asks-take 𝓛 mem run κ q d mach) $ frame ! $ done !
 
-  exits : (a b : Taken) → Fits (head_of a b).piece → head_of a b ≡ twoBy d → ent 𝓤 (⋆ 𝓛 (‵ (Own b.reader) ∷ (‵ (flft κ q) ⊛ ‵ ftrue) ∷ ‵ (Own d) ∷ [])) (Post (Q'.lowered (head_of a b)))
+  exits : (a b : Taken) → Fits (head_of a b).piece → head_of a b ≡ two_by d → ent 𝓤 (⋆ 𝓛 (‵ (Own b.reader) ∷ (‵ (flft κ q) ⊛ ‵ ftrue) ∷ ‵ (Own d) ∷ [])) (Post (Q'.lowered (head_of a b)))
   exits a b fits e =
       qed 𝓛 (‵ (Own b.reader) ∷ (‵ (flft κ q) ⊛ ‵ ftrue) ∷ ‵ (Own d) ∷ []) ∵
       suffices ! _ (ends_at 𝓛 two.ended stayed (two.clauses 𝓛 mem run) (((κ, tt), (q, tt), tt, (d, tt), (mach ∷ [], tt)), tt) (Q'.lowered (head_of a b)) (head_of a b) (tt, tt) (tt, tt)) $ says ! e $
@@ -86,14 +86,14 @@ module _ {M : Type 1} {𝓤 : Ura M} (𝓛 : Logic 𝓤) (mem : Memory → SProp
         pass1 ! (init ! 20 refl ((LL.lawful (T.the_type (α κ)) (T'.the_laws (α κ)) 𝓛).typed d _ p).0) $ pass0 ! $
         assigns ! (of_opd ! (load ! (from ! (stop !)) (look ! 20 refl))) (from ! (stop !)) (init ! 14 refl (reader-typed 𝓛 κ d mach p)) $
         move ! (24 ∷ []) $ use1 𝓛 (raw ((Take 𝓛 mem run).pre (to_take 𝓛 mem run κ q d mach)) ⊛ ‵ (Own d)) goes $ split ! $
-        hears ! fm (Take 𝓛 mem run) known (to_take 𝓛 mem run κ q d mach) (TakenT κ) (‵ (flft κ q) ⊛ ‵ ftrue) (λ a. ensured 𝓛 take.ended (take.clauses 𝓛 mem run) (κ, tt) (d, tt) tt a) (λ a. a ≡ takenBy d) (λ _. id⊢ 𝓤 _) (said-take 𝓛 mem run κ d) (and_then ! (load ! (from ! (stop !)) (look ! 16 refl)) (no_more !)) (λ u a e is.
+        hears ! fm (Take 𝓛 mem run) known (to_take 𝓛 mem run κ q d mach) (TakenT κ) (‵ (flft κ q) ⊛ ‵ ftrue) (λ a. ensured 𝓛 take.ended (take.clauses 𝓛 mem run) (κ, tt) (d, tt) tt a) (λ a. a ≡ taken_by d) (λ _. id⊢ 𝓤 _) (said-take 𝓛 mem run κ d) (and_then ! (load ! (from ! (stop !)) (look ! 16 refl)) (no_more !)) (λ u a e is.
         -- [what the step gave; the token; what d owns; _11; …; _2 at 21; …; room for _0; …]
         land ! (from ! (stop !)) (init ! 21 refl ((LL.lawful (G.the_type (αᵉ κ)) (G'.the_laws (αᵉ κ)) 𝓛).typed a _ is).0) $
         rewrite ! 21 (λ (w : Val). ‵ (fat full_share (G'.mir erased) l₂ 0 w)) (ap only (LL.tells (G.the_type (α κ)) (G'.the_laws (α κ)) a _ is)) refl $
         assigns ! (of_opd ! (load ! (from ! (fld ! refl (stop !))) (look_in ! 21 (sub ! 0 refl (whole !))))) (from ! (stop !)) (init ! 15 refl (tt, (taken-typed 𝓛 κ a u is).1.0)) $
         use1 𝓛 (‵ (Own a.reader)) (reader-taken 𝓛 κ a u) $
         use2 𝓛 (raw ((Take 𝓛 mem run).pre (to_take 𝓛 mem run κ q a.reader (T'.lowered a.reader)))) (asks-take 𝓛 mem run κ q a.reader (T'.lowered a.reader)) $
-        hears ! fm (Take 𝓛 mem run) known (to_take 𝓛 mem run κ q a.reader (T'.lowered a.reader)) (TakenT κ) (‵ (flft κ q) ⊛ ‵ ftrue) (λ b. ensured 𝓛 take.ended (take.clauses 𝓛 mem run) (κ, tt) (a.reader, tt) tt b) (λ b. b ≡ takenBy a.reader) (λ _. id⊢ 𝓤 _) (said-take 𝓛 mem run κ a.reader) (and_then ! (load ! (from ! (stop !)) (look ! 14 refl)) (no_more !)) (λ u' b e' is'.
+        hears ! fm (Take 𝓛 mem run) known (to_take 𝓛 mem run κ q a.reader (T'.lowered a.reader)) (TakenT κ) (‵ (flft κ q) ⊛ ‵ ftrue) (λ b. ensured 𝓛 take.ended (take.clauses 𝓛 mem run) (κ, tt) (a.reader, tt) tt b) (λ b. b ≡ taken_by a.reader) (λ _. id⊢ 𝓤 _) (said-take 𝓛 mem run κ a.reader) (and_then ! (load ! (from ! (stop !)) (look ! 14 refl)) (no_more !)) (λ u' b e' is'.
         -- [what the second step gave; the token; what d owns; _11; …; _3 at 19; …; _2 at 21; …; room for _0; …]
         land ! (from ! (stop !)) (init ! 19 refl ((LL.lawful (G.the_type (αᵉ κ)) (G'.the_laws (αᵉ κ)) 𝓛).typed b _ is').0) $
         rewrite ! 19 (λ (w : Val). ‵ (fat full_share (G'.mir erased) l₃ 0 w)) (ap only (LL.tells (G.the_type (α κ)) (G'.the_laws (α κ)) b _ is')) refl $
@@ -107,7 +107,7 @@ module _ {M : Type 1} {𝓤 : Ura M} (𝓛 : Logic 𝓤) (mem : Memory → SProp
         assigns ! (agg ! (and_then ! (load ! (from ! (stop !)) (look ! 13 refl)) (and_then ! (load ! (from ! (stop !)) (look ! 3 refl)) (no_more !)))) (from ! (stop !)) (init ! 25 refl (tt, ((taken-typed 𝓛 κ b u' is').1.0, (((taken-typed 𝓛 κ a u is).1.1.0, ((taken-typed 𝓛 κ b u' is').1.1.0, ((taken-typed 𝓛 κ a u is).1.1.1.0, ((taken-typed 𝓛 κ b u' is').1.1.1.0, (record { fits = zero-fits }, tt))))), tt)))) $
         returns ! (look ! 25 refl) $ forget ! 3 refl $ forget ! 5 refl $ forget ! 7 refl $ forget ! 9 refl $ forget ! 11 refl $ forget ! 13 refl $ forget ! 15 refl $ forget ! 17 refl $ forget ! 19 refl $ forget ! 21 refl $ forget ! 23 refl $ forget ! 25 refl $
         move ! (25 ∷ 26 ∷ []) $ free1 ! $ move ! (23 ∷ 24 ∷ []) $ free1 ! $ move ! (21 ∷ 22 ∷ []) $ free1 ! $ move ! (19 ∷ 20 ∷ []) $ free1 ! $ move ! (17 ∷ 18 ∷ []) $ free1 ! $ move ! (15 ∷ 16 ∷ []) $ free1 ! $ move ! (13 ∷ 14 ∷ []) $ free1 ! $ move ! (11 ∷ 12 ∷ []) $ free1 ! $ move ! (9 ∷ 10 ∷ []) $ free1 ! $ move ! (7 ∷ 8 ∷ []) $ free1 ! $ move ! (5 ∷ 6 ∷ []) $ free1 ! $ move ! (3 ∷ 4 ∷ []) $ free1 ! $ free0 ! $
-        by ! (exits a b (record { first = (taken-typed 𝓛 κ a u is).1.1.1.0.fits; second = (taken-typed 𝓛 κ b u' is').1.1.1.0.fits; third = zero-fits }) (ap (head_of a) e' ∙ ap (λ (x : Taken). head_of x (takenBy x.reader)) e))))))))))))))))
+        by ! (exits a b (record { first = (taken-typed 𝓛 κ a u is).1.1.1.0.fits; second = (taken-typed 𝓛 κ b u' is').1.1.1.0.fits; third = zero-fits }) (ap (head_of a) e' ∙ ap (λ (x : Taken). head_of x (taken_by x.reader)) e))))))))))))))))
 
 module _ {M : Type 1} {𝓤 : Ura M} (𝓛 : Logic 𝓤) (mem : Memory → SProp 𝓤) (run : Routine → Fun 𝓤) where
   open 𝓛 use {H}
@@ -120,7 +120,7 @@ module _ {M : Type 1} {𝓤 : Ura M} (𝓛 : Logic 𝓤) (mem : Memory → SProp
 two_meets : {M : Type 1} {𝓤 : Ura M} (𝓛 : Logic 𝓤) (mem : Memory → SProp 𝓤) (run : Routine → Fun 𝓤) (𝓣 : Tables 𝓤 𝓛.H)
     → Triple 𝓤 (𝓣.C #file-walk·reader·take) (Take 𝓛 mem run)
     → Meets 𝓛 two.signature (WpFn 𝓤 𝓛.H 𝓣.C 𝓣.Λ code.function) (two.spec 𝓛 mem run)
-two_meets {𝓤 = 𝓤} 𝓛 mem run 𝓣 known = walk_Meets 𝓛 two.ended stayed (Goes-none 𝓛 1 (λ κs. T.the_row (named_lft 1 0 tt κs)) yes (λ κs x f. refl), tt) (two.clauses 𝓛 mem run) (WpFn 𝓤 𝓛.H 𝓣.C 𝓣.Λ code.function) (WpFn-mono 𝓤 𝓛.H 𝓛.laws 𝓣 code.function)
+two_meets {𝓤 = 𝓤} 𝓛 mem run 𝓣 known = walk_meets 𝓛 two.ended stayed (Goes-none 𝓛 1 (λ κs. T.the_row (named_lft 1 0 tt κs)) yes (λ κs x f. refl), tt) (two.clauses 𝓛 mem run) (WpFn 𝓤 𝓛.H 𝓣.C 𝓣.Λ code.function) (WpFn-mono 𝓤 𝓛.H 𝓛.laws 𝓣 code.function)
     (two-walks 𝓛 mem run 𝓣.C 𝓣.Λ (fm_of 𝓤 𝓛.H 𝓛.laws 𝓣) known)
 
 pub take-two-spec : {M : Type 1} → stated.statement M

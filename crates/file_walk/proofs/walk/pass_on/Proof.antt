@@ -30,11 +30,11 @@ use denote.Triple.Statement.{Contract, Triple}
 use denote.Triple.Entry.{on_entry}
 use denote.Triple.Spec.{Meets, triple_of}
 use denote.Triple.Table.{entered, cited}
-use denote.Triple.Walked.{says, Stays, stay_none, walk_of, Goes-none, Walks, ends_at, walked, walk_Meets}
+use denote.Triple.Walked.{says, Stays, stay_none, walk_of, Goes-none, Walks, ends_at, walked, walk_meets}
 use denote.Exit.{yes}
 use denote.Triple.Clauses.{ensured, lasts}
-use Rattle.file_walk.specs.Read.{pieceBy}
-use Rattle.file_walk.specs.Walk.{formPast, passedOn}
+use Rattle.file_walk.specs.Read.{piece_by}
+use Rattle.file_walk.specs.Walk.{form_past, passed_on}
 use Rattle.file_walk.specs.declared.reader.Piece.{Piece as PieceD}
 use Rattle.file_walk.specs.declared.reader.TakenPiece.{TakenPiece}
 use Rattle.file_walk.specs.declared.walk.Form.{Form}
@@ -85,8 +85,8 @@ module _ {M : Type 1} {𝓤 : Ura M} (𝓛 : Logic 𝓤) (mem : Memory → SProp
         qed 𝓛 [] ∵ nothing ! $ owned ! P.the_row (Is P.the_row) (LL.makes P.the_type P'.the_plain 𝓛) p (P'.lowered p ∷ []) (piece_is p fits') $ fjoin ! $
         owned ! Fm.the_row (Is Fm.the_row) (LL.makes Fm.the_type Fm'.the_plain 𝓛) f (Fm'.lowered f ∷ []) (form-is f fits) $ fjoin ! $ nothing ! $ join ! $ frame ! $ done !
 
-    said-form : (r : Form) → ent 𝓤 (ensured 𝓛 form.ended (form.clauses 𝓛 mem run) tt (f, (p, tt)) tt r) (fact 𝓤 (r ≡ formPast f p))
-    said-form r = ex_e 𝓤 _ (λ ws. snd∗ 𝓤 (sem 𝓛 (lasts form.ended tt (f, (p, tt)) ws)) (fact 𝓤 (r ≡ formPast f p)))
+    said-form : (r : Form) → ent 𝓤 (ensured 𝓛 form.ended (form.clauses 𝓛 mem run) tt (f, (p, tt)) tt r) (fact 𝓤 (r ≡ form_past f p))
+    said-form r = ex_e 𝓤 _ (λ ws. snd∗ 𝓤 (sem 𝓛 (lasts form.ended tt (f, (p, tt)) ws)) (fact 𝓤 (r ≡ form_past f p)))
 
 module _ {M : Type 1} {𝓤 : Ura M} (𝓛 : Logic 𝓤) (mem : Memory → SProp 𝓤) (run : Routine → Fun 𝓤) (κ : Lft) (q : Share) (d : Pass) where
   open 𝓛 use {H}
@@ -114,7 +114,7 @@ module _ {M : Type 1} {𝓤 : Ura M} (𝓛 : Logic 𝓤) (mem : Memory → SProp
       use1 𝓛 (‵ ((ReaderT κ).own d.reader (T'.lowered d.reader ∷ []))) (reader-passed 𝓛 κ d mach) $
       move ! (0 ∷ 2 ∷ []) $ use2 𝓛 (raw ((Piece 𝓛 mem run).pre to)) (asks-piece 𝓛 mem run κ q d.reader (T'.lowered d.reader) line) $ frame ! $ done !
 
-  exits : (t : TakenPiece) (f : Form) → f.left < 2 ^ 32 → made t f ≡ passedOn d → ent 𝓤 (⋆ 𝓛 (‵ ((ReaderT κ).own t.reader (T'.lowered t.reader ∷ [])) ∷ (‵ (flft κ q) ⊛ ‵ ftrue) ∷ ‵ Own ∷ [])) (Post (S'.lowered (made t f)))
+  exits : (t : TakenPiece) (f : Form) → f.left < 2 ^ 32 → made t f ≡ passed_on d → ent 𝓤 (⋆ 𝓛 (‵ ((ReaderT κ).own t.reader (T'.lowered t.reader ∷ [])) ∷ (‵ (flft κ q) ⊛ ‵ ftrue) ∷ ‵ Own ∷ [])) (Post (S'.lowered (made t f)))
   exits t f fits e =
       qed 𝓛 (‵ ((ReaderT κ).own t.reader (T'.lowered t.reader ∷ [])) ∷ (‵ (flft κ q) ⊛ ‵ ftrue) ∷ ‵ Own ∷ []) ∵
       suffices ! _ (ends_at 𝓛 pass.ended stayed (pass.clauses 𝓛 mem run) (((κ, tt), (q, tt), tt, (d, tt), (mach ∷ [], tt)), tt) (S'.lowered (made t f)) (made t f) (tt, tt) (tt, tt)) $ says ! e $
@@ -134,7 +134,7 @@ module _ {M : Type 1} {𝓤 : Ura M} (𝓛 : Logic 𝓤) (mem : Memory → SProp
         assigns ! (of_opd ! (load ! (from ! (fld ! refl (stop !))) (look_in ! 14 (sub ! 0 refl (whole !))))) (from ! (stop !)) (init ! 8 refl (tt, wt.0)) $
         assigns ! (bin ! (load ! (from ! (fld ! refl (stop !))) (look_in ! 12 (sub ! 0 refl (whole !)))) (lit ! tt) tt) (from ! (stop !)) (init ! 6 refl (tt, tt)) $
         move ! (18 ∷ []) $ use1 𝓛 (raw ((Piece 𝓛 mem run).pre to) ⊛ ‵ Own) goes $ split ! $
-        hears ! fm (Piece 𝓛 mem run) known-piece to (TakenPieceT κ) (‵ (flft κ q) ⊛ ‵ ftrue) (λ t. ensured 𝓛 piece.ended (piece.clauses 𝓛 mem run) (κ, tt) (d.reader, (line, tt)) tt t) (λ t. t ≡ pieceBy d.reader line) (λ _. id⊢ 𝓤 _) (said-piece 𝓛 mem run κ d.reader line) (and_then ! (load ! (from ! (stop !)) (look ! 10 refl)) (and_then ! (load ! (from ! (stop !)) (look ! 8 refl)) (no_more !))) (λ u t e is.
+        hears ! fm (Piece 𝓛 mem run) known-piece to (TakenPieceT κ) (‵ (flft κ q) ⊛ ‵ ftrue) (λ t. ensured 𝓛 piece.ended (piece.clauses 𝓛 mem run) (κ, tt) (d.reader, (line, tt)) tt t) (λ t. t ≡ piece_by d.reader line) (λ _. id⊢ 𝓤 _) (said-piece 𝓛 mem run κ d.reader line) (and_then ! (load ! (from ! (stop !)) (look ! 10 refl)) (and_then ! (load ! (from ! (stop !)) (look ! 8 refl)) (no_more !))) (λ u t e is.
         -- [what `take_piece` gave; the token; what d owns; _8; …; _3 at 13; …; _2 at 15; …; room for _0; …]
         land ! (from ! (stop !)) (init ! 13 refl ((LL.lawful (Q.the_type (αᵉ κ)) (Q'.the_laws (αᵉ κ)) 𝓛).typed t _ is).0) $
         rewrite ! 13 (λ (w : Val). ‵ (fat full_share (Q'.mir erased) l₃ 0 w)) (ap only (LL.tells (Q.the_type (α κ)) (Q'.the_laws (α κ)) t _ is)) refl $
@@ -142,7 +142,7 @@ module _ {M : Type 1} {𝓤 : Ura M} (𝓛 : Logic 𝓤) (mem : Memory → SProp
         assigns ! (of_opd ! (load ! (from ! (fld ! refl (stop !))) (look_in ! 13 (sub ! 0 refl (whole !))))) (from ! (stop !)) (init ! 7 refl (tt, (piece-typed 𝓛 κ t u is).1.0)) $
         assigns ! (of_opd ! (load ! (from ! (fld ! refl (stop !))) (look_in ! 13 (sub ! 1 refl (whole !))))) (from ! (stop !)) (init ! 3 refl (tt, (piece-typed 𝓛 κ t u is).1.1.0)) $
         use0 𝓛 (raw ((FormPast 𝓛 mem run).pre (to-form 𝓛 mem run d.form t.piece))) (asks-form 𝓛 mem run d.form t.piece wt.1.0.0.fits (record { first = (piece-typed 𝓛 κ t u is).1.1.0.1.1.0.fits; second = (piece-typed 𝓛 κ t u is).1.1.0.1.1.1.0.fits; third = (piece-typed 𝓛 κ t u is).1.1.0.1.1.1.1.0.fits })) $
-        hears ! fm (FormPast 𝓛 mem run) known-form (to-form 𝓛 mem run d.form t.piece) Fm.the_row (‵ ftrue) (λ f. ensured 𝓛 form.ended (form.clauses 𝓛 mem run) tt (d.form, (t.piece, tt)) tt f) (λ f. f ≡ formPast d.form t.piece) (λ _. id⊢ 𝓤 _) (said-form 𝓛 mem run d.form t.piece) (and_then ! (load ! (from ! (stop !)) (look ! 16 refl)) (and_then ! (load ! (from ! (stop !)) (look ! 4 refl)) (no_more !))) (λ u' f e' is'.
+        hears ! fm (FormPast 𝓛 mem run) known-form (to-form 𝓛 mem run d.form t.piece) Fm.the_row (‵ ftrue) (λ f. ensured 𝓛 form.ended (form.clauses 𝓛 mem run) tt (d.form, (t.piece, tt)) tt f) (λ f. f ≡ form_past d.form t.piece) (λ _. id⊢ 𝓤 _) (said-form 𝓛 mem run d.form t.piece) (and_then ! (load ! (from ! (stop !)) (look ! 16 refl)) (and_then ! (load ! (from ! (stop !)) (look ! 4 refl)) (no_more !))) (λ u' f e' is'.
         move ! (1 ∷ []) $ drop ! $
         -- [the form; what the reader owns; the token; what d owns; _8; …; _7 at 6; …; room for _0; …]
         land ! (from ! (stop !)) (init ! 6 refl ((LL.lawful Fm.the_type Fm'.the_laws 𝓛).typed f _ is').0) $
@@ -150,7 +150,7 @@ module _ {M : Type 1} {𝓤 : Ura M} (𝓛 : Logic 𝓤) (mem : Memory → SProp
         assigns ! (agg ! (and_then ! (load ! (from ! (stop !)) (look ! 7 refl)) (and_then ! (load ! (from ! (stop !)) (look ! 5 refl)) (no_more !)))) (from ! (stop !)) (init ! 19 refl (tt, ((piece-typed 𝓛 κ t u is).1.0, ((form-typed f u' is').1, tt)))) $
         returns ! (look ! 19 refl) $ forget ! 3 refl $ forget ! 5 refl $ forget ! 7 refl $ forget ! 9 refl $ forget ! 11 refl $ forget ! 13 refl $ forget ! 15 refl $ forget ! 17 refl $ forget ! 19 refl $
         move ! (19 ∷ 20 ∷ []) $ free1 ! $ move ! (17 ∷ 18 ∷ []) $ free1 ! $ move ! (15 ∷ 16 ∷ []) $ free1 ! $ move ! (13 ∷ 14 ∷ []) $ free1 ! $ move ! (11 ∷ 12 ∷ []) $ free1 ! $ move ! (9 ∷ 10 ∷ []) $ free1 ! $ move ! (7 ∷ 8 ∷ []) $ free1 ! $ move ! (5 ∷ 6 ∷ []) $ free1 ! $ move ! (3 ∷ 4 ∷ []) $ free1 ! $ free0 ! $
-        by ! (exits t f (form-typed f u' is').1.0.fits (ap (made t) e' ∙ ap (λ (x : TakenPiece). made x (formPast d.form x.piece)) e)))))))))))))
+        by ! (exits t f (form-typed f u' is').1.0.fits (ap (made t) e' ∙ ap (λ (x : TakenPiece). made x (form_past d.form x.piece)) e)))))))))))))
 
 module _ {M : Type 1} {𝓤 : Ura M} (𝓛 : Logic 𝓤) (mem : Memory → SProp 𝓤) (run : Routine → Fun 𝓤) where
   open 𝓛 use {H}
@@ -163,7 +163,7 @@ module _ {M : Type 1} {𝓤 : Ura M} (𝓛 : Logic 𝓤) (mem : Memory → SProp
 pass_meets : {M : Type 1} {𝓤 : Ura M} (𝓛 : Logic 𝓤) (mem : Memory → SProp 𝓤) (run : Routine → Fun 𝓤) (𝓣 : Tables 𝓤 𝓛.H)
     → Triple 𝓤 (𝓣.C #file-walk·reader·take-piece) (Piece 𝓛 mem run) → Triple 𝓤 (𝓣.C #file-walk·walk·form-past) (FormPast 𝓛 mem run)
     → Meets 𝓛 pass.signature (WpFn 𝓤 𝓛.H 𝓣.C 𝓣.Λ code.function) (pass.spec 𝓛 mem run)
-pass_meets {𝓤 = 𝓤} 𝓛 mem run 𝓣 known-piece known-form = walk_Meets 𝓛 pass.ended stayed (Goes-none 𝓛 1 (λ κs. S.the_row (named_lft 1 0 tt κs)) yes (λ κs x f. refl), tt) (pass.clauses 𝓛 mem run) (WpFn 𝓤 𝓛.H 𝓣.C 𝓣.Λ code.function) (WpFn-mono 𝓤 𝓛.H 𝓛.laws 𝓣 code.function)
+pass_meets {𝓤 = 𝓤} 𝓛 mem run 𝓣 known-piece known-form = walk_meets 𝓛 pass.ended stayed (Goes-none 𝓛 1 (λ κs. S.the_row (named_lft 1 0 tt κs)) yes (λ κs x f. refl), tt) (pass.clauses 𝓛 mem run) (WpFn 𝓤 𝓛.H 𝓣.C 𝓣.Λ code.function) (WpFn-mono 𝓤 𝓛.H 𝓛.laws 𝓣 code.function)
     (pass_walks 𝓛 mem run 𝓣.C 𝓣.Λ (fm_of 𝓤 𝓛.H 𝓛.laws 𝓣) known-piece known-form)
 
 pub pass-on-spec : {M : Type 1} → stated.statement M

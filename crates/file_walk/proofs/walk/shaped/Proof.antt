@@ -24,11 +24,11 @@ use types.Run.{look, init, store, forget, stop, fld, from, load, lit, true_lit, 
 use sound.WpLaws.{fm_of, WpFn-mono}
 use denote.RattleType.{owns}
 use denote.Laws.{Is, shows}
-use denote.Plain.{uint_Makes, bool_Makes}
+use denote.Plain.{uint_makes, bool_makes}
 use denote.Builtin.{u8, usize, bool}
 use denote.Ref.{Bor}
 use denote.Signature.{plain}
-use denote.Slice.{slice_ty, slice_val, ShrSlice, shr_slice_vals, shr_slice_Tells, shr_slice_Lawful, shr_slice_copy}
+use denote.Slice.{slice_ty, slice_val, ShrSlice, shr_slice_vals, shr_slice_tells, shr_slice_lawful, shr_slice_copy}
 use denote.Steps.{owned, peeks, heard, nothing, only}
 use denote.Struct.Laws as LL
 use denote.Triple.Statement.{Contract, Triple}
@@ -36,16 +36,16 @@ use denote.Triple.Call.{calls_at_last}
 use denote.Triple.Entry.{Vals, on_entry}
 use denote.Triple.Spec.{Meets, triple_of}
 use denote.Triple.Table.{entered, cited}
-use denote.Triple.Walked.{says, Stays, stay_none_slice, walk_of, Goes-none_slice, Walks, ends_at, walked, walk_Meets}
+use denote.Triple.Walked.{says, Stays, stay_none_slice, walk_of, Goes-none_slice, Walks, ends_at, walked, walk_meets}
 use denote.Exit.{yes}
 use denote.Triple.Clauses.{ensured, lasts}
-use Rattle.rules.specs.DayFile.{isShaped, words_of}
-use Rattle.file_walk.specs.Walk.{passedOn}
+use Rattle.rules.specs.DayFile.{is_shaped, words_of}
+use Rattle.file_walk.specs.Walk.{passed_on}
 use Rattle.file_walk.specs.declared.reader.Reader.{Reader}
 use Rattle.file_walk.specs.declared.walk.Pass.{Pass}
 use Rattle.file_walk.proofs.HeldLaws.{α, αᵉ, ReaderT, PassT, zero-fits, reader-typed, reader-told, pass_typed, pass-held}
 use Rattle.file_walk.proofs.RunLaws.{tests, whiles, hears}
-use Rattle.file_walk.proofs.PassLaws.{toCome, Along, along-start, along-on, less-on, along-end}
+use Rattle.file_walk.proofs.PassLaws.{to_come, Along, along-start, along-on, less-on, along-end}
 use Rattle.file_walk.specs.contracts.reader.Reader as T
 use Rattle.file_walk.proofs.reader.Reader.TheLaws as T'
 use Rattle.file_walk.proofs.walk.Form.TheLaws as Fm'
@@ -111,7 +111,7 @@ module _ {M : Type 1} {𝓤 : Ura M} (𝓛 : Logic 𝓤) (mem : Memory → SProp
   goes-new =
       qed 𝓛 ((‵ (flft κ q) ⊛ ‵ ftrue) ∷ ‵ (owns (ShrSlice (named 0) κ u8 ∷ []) (s, tt) (v ∷ [], tt)) ∷ []) ∵
       move ! (1 ∷ []) $ fsplit ! $ use1 𝓛 (‵ Own ⊛ ‵ Own) ((shr_slice_copy 𝓛 (named 0) κ u8).twice s (v ∷ [])) $ split ! $ move ! (2 ∷ []) $ drop ! $
-      nothing ! $ owned ! usize (Is usize) (uint_Makes 𝓛 w64) 0 _ (refl, lit< tt) $ fjoin ! $ move ! (1 ∷ 0 ∷ []) $ fjoin ! $
+      nothing ! $ owned ! usize (Is usize) (uint_makes 𝓛 w64) 0 _ (refl, lit< tt) $ fjoin ! $ move ! (1 ∷ 0 ∷ []) $ fjoin ! $
       move ! (2 ∷ 0 ∷ []) $ use2 𝓛 (raw ((New 𝓛 mem run).pre to-new)) (qed 𝓛 ((‵ (flft κ q) ⊛ ‵ ftrue) ∷ ‵ (owns (ShrSlice (named 0) κ u8 ∷ usize ∷ []) (s, (0, tt)) on) ∷ []) ∵ join ! $ frame ! $ done !) $ frame ! $ done !
 
   new-said : (r : Reader) → ent 𝓤 (ensured 𝓛 new.ended (new.clauses 𝓛 mem run) (κ, tt) (s, (0, tt)) tt r) (fact 𝓤 ((r.bytes ≡ s) × (r.at ≡ 0)))
@@ -127,14 +127,14 @@ module _ {M : Type 1} {𝓤 : Ura M} (𝓛 : Logic 𝓤) (mem : Memory → SProp
   asks-pass : (p : Pass) → ent 𝓤 (⋆ 𝓛 (‵ (Own-pass p) ∷ (‵ (flft κ q) ⊛ ‵ ftrue) ∷ [])) ((PassOn 𝓛 mem run).pre (to-pass p))
   asks-pass p = qed 𝓛 (‵ (Own-pass p) ∷ (‵ (flft κ q) ⊛ ‵ ftrue) ∷ []) ∵ nothing ! $ move ! (1 ∷ 0 ∷ []) $ fjoin ! $ move ! (1 ∷ 0 ∷ []) $ join ! $ frame ! $ done !
 
-  pass-said : (p r : Pass) → ent 𝓤 (ensured 𝓛 pass.ended (pass.clauses 𝓛 mem run) (κ, tt) (p, tt) tt r) (fact 𝓤 (r ≡ passedOn p))
-  pass-said p r = ex_e 𝓤 _ (λ ws. snd∗ 𝓤 (sem 𝓛 (lasts pass.ended (κ, tt) (p, tt) ws)) (fact 𝓤 (r ≡ passedOn p)))
+  pass-said : (p r : Pass) → ent 𝓤 (ensured 𝓛 pass.ended (pass.clauses 𝓛 mem run) (κ, tt) (p, tt) tt r) (fact 𝓤 (r ≡ passed_on p))
+  pass-said p r = ex_e 𝓤 _ (λ ws. snd∗ 𝓤 (sem 𝓛 (lasts pass.ended (κ, tt) (p, tt) ws)) (fact 𝓤 (r ≡ passed_on p)))
 
-  exits : (b : Bool) → b ≡ isShaped 0 (words_of s.now) → ent 𝓤 (⋆ 𝓛 ((‵ (flft κ q) ⊛ ‵ ftrue) ∷ ‵ Own ∷ [])) (Post (vbool b))
+  exits : (b : Bool) → b ≡ is_shaped 0 (words_of s.now) → ent 𝓤 (⋆ 𝓛 ((‵ (flft κ q) ⊛ ‵ ftrue) ∷ ‵ Own ∷ [])) (Post (vbool b))
   exits b e =
       qed 𝓛 ((‵ (flft κ q) ⊛ ‵ ftrue) ∷ ‵ Own ∷ []) ∵
       suffices ! _ (ends_at 𝓛 shaped.ended stayed (shaped.clauses 𝓛 mem run) (((κ, tt), (q, tt), tt, (s, tt), (v ∷ [], tt)), tt) (vbool b) b (tt, tt) (tt, tt)) $ says ! e $
-      frame ! $ nothing ! $ move ! (1 ∷ 0 ∷ []) $ fjoin ! $ frame ! $ owned ! bool (Is bool) (bool_Makes 𝓛) b _ refl $ done !
+      frame ! $ nothing ! $ move ! (1 ∷ 0 ∷ []) $ fjoin ! $ frame ! $ owned ! bool (Is bool) (bool_makes 𝓛) b _ refl $ done !
 
   module _ (𝓣 : Tables 𝓤 H) (known-new : Triple 𝓤 (𝓣.C #file-walk·reader·new) (New 𝓛 mem run)) (known-pass : Triple 𝓤 (𝓣.C #file-walk·walk·pass-on) (PassOn 𝓛 mem run)) where
     -- what a turn begins with, by the locals' places: what the pass owns, the token, what s owns, and the locals, of which the pass, s and nothing else are set
@@ -148,7 +148,7 @@ module _ {M : Type 1} {𝓤 : Ura M} (𝓛 : Logic 𝓤) (mem : Memory → SProp
     walk p =
         qed 𝓛 (raw (on_entry 𝓛 shaped.signature (κ, tt) (q, tt) (s, tt) (v ∷ [], tt)) ∷ []) ∵ enter ! 𝓣.C 𝓣.Λ code.function (v ∷ []) _ $
         alloc1 ! (λ l₀. alloc1 ! (λ l₁. alloc1 ! (λ l₂. alloc1 ! (λ l₃. alloc1 ! (λ l₄. alloc1 ! (λ l₅. alloc1 ! (λ l₆. alloc0 ! $ params1 ! $
-        pass1 ! (init ! 10 refl ((shr_slice_Lawful 𝓛 (named 0) κ u8).typed s (v ∷ []) p).0) $ pass0 ! $
+        pass1 ! (init ! 10 refl ((shr_slice_lawful 𝓛 (named 0) κ u8).typed s (v ∷ []) p).0) $ pass0 ! $
         move ! (14 ∷ []) $ use1 𝓛 (raw ((New 𝓛 mem run).pre to-new) ⊛ ‵ Own) goes-new $ split ! $
         hears ! (fm_of 𝓤 H 𝓛.laws 𝓣) (New 𝓛 mem run) known-new to-new (ReaderT κ) (‵ (flft κ q) ⊛ ‵ ftrue) (λ r. ensured 𝓛 new.ended (new.clauses 𝓛 mem run) (κ, tt) (s, (0, tt)) tt r) (λ r. (r.bytes ≡ s) × (r.at ≡ 0)) (λ _. id⊢ 𝓤 _) new-said (and_then ! (load ! (from ! (stop !)) (look ! 12 refl)) (and_then ! (lit ! tt) (no_more !))) (λ u r e is.
         -- [what the reader owns; the token; what s owns; _6; …; _5; …; _4 at 7; …; _3 at 9; …; _2 at 11; …; _1; …; room for _0; …]
@@ -159,14 +159,14 @@ module _ {M : Type 1} {𝓤 : Ura M} (𝓛 : Logic 𝓤) (mem : Memory → SProp
         assigns ! (agg ! (and_then ! (load ! (from ! (stop !)) (look ! 9 refl)) (and_then ! (load ! (from ! (stop !)) (look ! 7 refl)) (no_more !)))) (from ! (stop !)) (init ! 11 refl (tt, ((reader-told 𝓛 κ r u is).1, ((record { fits = zero-fits }, (tt, (tt, tt))), tt)))) $
         use1 𝓛 (‵ (Own-pass (start r))) (pass-held 𝓛 κ (start r) zero-fits) $ forget ! 7 refl $ forget ! 9 refl $
         peeks ! (PassT κ) (Is (PassT κ)) (shows 𝓛 (PassT κ)) (start r) (S'.lowered (start r) ∷ []) (λ at-start.
-        whiles ! 𝓣 (λ (t : At κ s). toCome s.now t.pass) (I l₀ l₁ l₂ l₃ l₄ l₅ l₆) (λ t q' leaves goes.
+        whiles ! 𝓣 (λ (t : At κ s). to_come s.now t.pass) (I l₀ l₁ l₂ l₃ l₄ l₅ l₆) (λ t q' leaves goes.
         assigns ! (of_opd ! (load ! (from ! (fld ! refl (fld ! refl (stop !)))) (look_in ! 11 (sub ! 1 refl (sub ! 1 refl (whole !)))))) (from ! (stop !)) (init ! 5 refl (tt, tt)) $
         tests ! (load ! (from ! (stop !)) (look ! 5 refl))
         (λ on-turn. assigns ! (of_opd ! (load ! (from ! (stop !)) (look ! 11 refl))) (from ! (stop !)) (init ! 3 refl (pass_typed 𝓛 κ t.pass _ t.is)) $
         use2 𝓛 (raw ((PassOn 𝓛 mem run).pre (to-pass t.pass))) (asks-pass t.pass) $
         calls_at_last ! (fm_of 𝓤 H 𝓛.laws 𝓣) (PassOn 𝓛 mem run) known-pass (to-pass t.pass) (and_then ! (load ! (from ! (stop !)) (look ! 2 refl)) (no_more !)) (λ u'.
         use1 𝓛 (later (some (λ (r' : Pass). ((‵ (flft κ q) ⊛ ‵ ftrue) ⊛ ‵ ((PassT κ).own r' (u' ∷ []))) ⊛ raw (ensured 𝓛 pass.ended (pass.clauses 𝓛 mem run) (κ, tt) (t.pass, tt) tt r')))) (id⊢ 𝓤 _) $ await ! tt $ pick ! (λ r'.
-        split ! $ move ! (1 ∷ []) $ use1 𝓛 (raw (fact 𝓤 (r' ≡ passedOn t.pass))) (pass-said t.pass r') $ heard ! (r' ≡ passedOn t.pass) (λ e'. split ! $ move ! (1 ∷ []) $
+        split ! $ move ! (1 ∷ []) $ use1 𝓛 (raw (fact 𝓤 (r' ≡ passed_on t.pass))) (pass-said t.pass r') $ heard ! (r' ≡ passed_on t.pass) (λ e'. split ! $ move ! (1 ∷ []) $
         peeks ! (PassT κ) (Is (PassT κ)) (shows 𝓛 (PassT κ)) r' (u' ∷ []) (λ is'.
         land_last ! (from ! (stop !)) (store ! 11 refl ((LL.lawful (S.the_type (αᵉ κ)) (S'.the_laws (αᵉ κ)) 𝓛).typed r' _ is').0) $
         rewrite ! 11 (λ (w : Val). ‵ (fat full_share (S'.mir erased) l₂ 0 w)) (ap only (LL.tells (S.the_type (α κ)) (S'.the_laws (α κ)) r' _ is')) refl $
@@ -181,13 +181,13 @@ module _ {M : Type 1} {𝓤 : Ura M} (𝓛 : Logic 𝓤) (mem : Memory → SProp
 
   shaped-walks : (𝓣 : Tables 𝓤 H) → Triple 𝓤 (𝓣.C #file-walk·reader·new) (New 𝓛 mem run) → Triple 𝓤 (𝓣.C #file-walk·walk·pass-on) (PassOn 𝓛 mem run)
       → Walks 𝓛 shaped.ended stayed (WpFn 𝓤 H 𝓣.C 𝓣.Λ code.function) (shaped.clauses 𝓛 mem run)
-  shaped-walks 𝓣 known-new known-pass = walked 𝓛 shaped.ended stayed (shaped.clauses 𝓛 mem run) (WpFn 𝓤 H 𝓣.C 𝓣.Λ code.function) (λ κs. (shr_slice_vals, tt)) (λ κs. (shr_slice_Tells (named 0) κs.0 u8, tt))
+  shaped-walks 𝓣 known-new known-pass = walked 𝓛 shaped.ended stayed (shaped.clauses 𝓛 mem run) (WpFn 𝓤 H 𝓣.C 𝓣.Λ code.function) (λ κs. (shr_slice_vals, tt)) (λ κs. (shr_slice_tells (named 0) κs.0 u8, tt))
       (λ κs qs bounds a g are. via 𝓤 _ (fst∗ 𝓤 _ (emp 𝓤)) (walk 𝓛 mem run κs.0 qs.0 a.0 𝓣 known-new known-pass are.0))
 
 shaped-meets : {M : Type 1} {𝓤 : Ura M} (𝓛 : Logic 𝓤) (mem : Memory → SProp 𝓤) (run : Routine → Fun 𝓤) (𝓣 : Tables 𝓤 𝓛.H)
     → Triple 𝓤 (𝓣.C #file-walk·reader·new) (New 𝓛 mem run) → Triple 𝓤 (𝓣.C #file-walk·walk·pass-on) (PassOn 𝓛 mem run)
     → Meets 𝓛 shaped.signature (WpFn 𝓤 𝓛.H 𝓣.C 𝓣.Λ code.function) (shaped.spec 𝓛 mem run)
-shaped-meets {𝓤 = 𝓤} 𝓛 mem run 𝓣 known-new known-pass = walk_Meets 𝓛 shaped.ended stayed (Goes-none_slice 𝓛 1 (0 ∷ []) tt (plain (λ _. u8)) yes, tt) (shaped.clauses 𝓛 mem run) (WpFn 𝓤 𝓛.H 𝓣.C 𝓣.Λ code.function) (WpFn-mono 𝓤 𝓛.H 𝓛.laws 𝓣 code.function)
+shaped-meets {𝓤 = 𝓤} 𝓛 mem run 𝓣 known-new known-pass = walk_meets 𝓛 shaped.ended stayed (Goes-none_slice 𝓛 1 (0 ∷ []) tt (plain (λ _. u8)) yes, tt) (shaped.clauses 𝓛 mem run) (WpFn 𝓤 𝓛.H 𝓣.C 𝓣.Λ code.function) (WpFn-mono 𝓤 𝓛.H 𝓛.laws 𝓣 code.function)
     (shaped-walks 𝓛 mem run 𝓣 known-new known-pass)
 
 pub shaped-spec : {M : Type 1} → stated.statement M

@@ -2,7 +2,7 @@
 use mathlib.Core.Path.{◌∙◌, ap}
 use borrow.Author.Rules.{rules}
 use Rattle.rules.specs.Entry.{key_of}
-use Rattle.byte_changes.specs.Requests.{changeOf}
+use Rattle.byte_changes.specs.Requests.{change_of}
 use Rattle.byte_changes.proofs.ActLaws.{post-answer}
 use Rattle.host_changes.proofs.books.fanzsoreb_post.Statement.{statement}
 use Rattle.host_changes.proofs.books.fanzsoreb_post.Tie as tie
@@ -14,7 +14,7 @@ same_length : tie.Need-same-length
 same_length c = search rules
 
 returns : tie.Need-returns
-unfolding changeOf
+unfolding change_of
 returns c =
     let d = c.before.before in
     let a = d.before.before.before.args in

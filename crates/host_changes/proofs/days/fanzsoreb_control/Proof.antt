@@ -1,7 +1,7 @@
 -- `host_changes::days::fanzsoreb_control` meets its contract. Assumes nothing.
 use mathlib.Core.Path.{◌∙◌, ap}
 use borrow.Author.Rules.{rules}
-use Rattle.byte_changes.specs.Requests.{changeOf}
+use Rattle.byte_changes.specs.Requests.{change_of}
 use Rattle.byte_changes.proofs.ActLaws.{control-answer}
 use Rattle.host_changes.proofs.days.fanzsoreb_control.Statement.{statement}
 use Rattle.host_changes.proofs.days.fanzsoreb_control.Tie as tie
@@ -13,7 +13,7 @@ same_length : tie.Need-same-length
 same_length c = search rules
 
 returns : tie.Need-returns
-unfolding changeOf
+unfolding change_of
 returns c =
     let d = c.before.before in
     let e = d.change.ensures in (

@@ -2,7 +2,7 @@
 use mathlib.Core.Path.{◌∙◌, ap}
 use borrow.Author.Rules.{rules}
 use lib.Dec.{eqb}
-use Rattle.word_bytes.specs.Bytes.{yesNo}
+use Rattle.word_bytes.specs.Bytes.{yes_no}
 use Rattle.word_bytes.proofs.CodingLaws.{yes-byte}
 use Rattle.byte_questions.proofs.ReplyLaws.{book-reply}
 use Rattle.host_questions.proofs.books.fanzsoreb_is_book.Statement.{statement}
@@ -16,7 +16,7 @@ cast-result c = search rules
 
 returns : tie.Need-returns
 returns c =
-    yes-byte (eqb c.before.ask.result.counted.answer 0) ∙ ap (λ r. yesNo (eqb r.counted.answer 0)) c.before.ask.ensures ∙ book-reply _
+    yes-byte (eqb c.before.ask.result.counted.answer 0) ∙ ap (λ r. yes_no (eqb r.counted.answer 0)) c.before.ask.ensures ∙ book-reply _
 
 pub fanzsoreb-is-book-spec : {M : Type 1} → statement M
 fanzsoreb-is-book-spec = tie.close (tie.spec ask-requires cast-result returns)

@@ -10,13 +10,13 @@ use lib.Seq.{get_or-drop}
 use mir.Syntax.{w32}
 use mir.ValLaws.{to_z-of_z}
 use Rattle.word_bytes.proofs.BytesLaws.{fill_step, filled}
-use Rattle.month_bytes.specs.Tables.{figuresOf}
+use Rattle.month_bytes.specs.Tables.{figures_of}
 use Rattle.month_bytes.proofs.FigureLaws.{length-figures}
 use Rattle.month_bytes.proofs.figures.read_figures.Statement.{statement}
 use Rattle.month_bytes.proofs.figures.read_figures.Tie as tie
 
 abbrev invariant-loop : tie.invariant-loop
-invariant-loop bytes at figures₀ i₀ figures i = (i ≤ length figures₀) × (length figures ≡ length figures₀) × (take i figures ≡ take i (drop at (figuresOf bytes)))
+invariant-loop bytes at figures₀ i₀ figures i = (i ≤ length figures₀) × (length figures ≡ length figures₀) × (take i figures ≡ take i (drop at (figures_of bytes)))
 
 abbrev decreases-loop : tie.decreases-loop
 decreases-loop bytes at figures₀ i₀ figures i = length figures₀ - i
@@ -47,8 +47,8 @@ loop-again c =
     let l = c.before.before.loop in
     let a = c.before.before.before.before.args in
     let bs : List ℕ = a.bytes.now in
-    let v = to_z-of_z w32 c.figure-at.result (record { sfits = c.figure-at.type-inv }) ∙ c.figure-at.ensures ∙ sym (get_or-drop a.at (figuresOf bs) l.i (pos 0)) in
-    (search rules, simp length-set (search rules), fill_step (pos 0) _ _ l.i _ (omega arith) (omega (arith, length-figures bs, length-drop a.at (figuresOf bs))) v l.invariant.2)
+    let v = to_z-of_z w32 c.figure-at.result (record { sfits = c.figure-at.type-inv }) ∙ c.figure-at.ensures ∙ sym (get_or-drop a.at (figures_of bs) l.i (pos 0)) in
+    (search rules, simp length-set (search rules), fill_step (pos 0) _ _ l.i _ (omega arith) (omega (arith, length-figures bs, length-drop a.at (figures_of bs))) v l.invariant.2)
 
 same_length : tie.Need-same-length invariant-loop decreases-loop
 same_length c = search rules

@@ -8,16 +8,16 @@ use lib.IntN.{pos}
 use lib.ListN.{drop, get_or}
 use borrow.Author.Rules.{rules}
 use Rattle.numbers.specs.Tests.{all}
-use Rattle.rules.specs.Month.{volumeOk}
+use Rattle.rules.specs.Month.{volume_ok}
 use Rattle.month_step.proofs.ScanLaws.{all_more, all_end}
 use Rattle.month_step.proofs.BitLaws.{exact32}
-use Rattle.month_bytes.specs.Tables.{figuresOf}
+use Rattle.month_bytes.specs.Tables.{figures_of}
 use Rattle.month_bytes.proofs.FigureLaws.{length-figures}
 use Rattle.month_bytes.proofs.figures.volumes_ok.Statement.{statement}
 use Rattle.month_bytes.proofs.figures.volumes_ok.Tie as tie
 
 abbrev invariant-loop : tie.invariant-loop
-invariant-loop bytes figures ok₀ i₀ ok i = (i ≤ figures) × (all volumeOk (figuresOf bytes) ≡ ok && all volumeOk (drop i (figuresOf bytes)))
+invariant-loop bytes figures ok₀ i₀ ok i = (i ≤ figures) × (all volume_ok (figures_of bytes) ≡ ok && all volume_ok (drop i (figures_of bytes)))
 
 abbrev decreases-loop : tie.decreases-loop
 decreases-loop bytes figures ok₀ i₀ ok i = figures - i
@@ -41,15 +41,15 @@ loop-again : tie.Need-loop-preserved invariant-loop decreases-loop
 loop-again c =
     let at = c.before.before.before.loop in
     let bs : List ℕ = c.before.before.before.before.before.args.bytes.now in
-    let found : c.volume-ok.result ≡ volumeOk (get_or (figuresOf bs) at.i (pos 0)) =
-    c.volume-ok.ensures ∙ ap (λ z. volumeOk z) (exact32 c.before.figure-at.result c.before.figure-at.type-inv ∙ c.before.figure-at.ensures) in
-    (search rules, rw found (all_more volumeOk (figuresOf bs) at.ok at.i (pos 0) (omega (arith, length-figures bs)) at.invariant.1))
+    let found : c.volume-ok.result ≡ volume_ok (get_or (figures_of bs) at.i (pos 0)) =
+    c.volume-ok.ensures ∙ ap (λ z. volume_ok z) (exact32 c.before.figure-at.result c.before.figure-at.type-inv ∙ c.before.figure-at.ensures) in
+    (search rules, rw found (all_more volume_ok (figures_of bs) at.ok at.i (pos 0) (omega (arith, length-figures bs)) at.invariant.1))
 
 returns : tie.Need-returns invariant-loop decreases-loop
 returns c =
     let at = c.before.loop in
     let bs : List ℕ = c.before.before.before.args.bytes.now in
-    all_end volumeOk (figuresOf bs) at.ok at.i (omega (arith, length-figures bs)) (omega (arith, length-figures bs)) at.invariant.1
+    all_end volume_ok (figures_of bs) at.ok at.i (omega (arith, length-figures bs)) (omega (arith, length-figures bs)) at.invariant.1
 
 pub volumes-ok-spec : {M : Type 1} → statement M
 volumes-ok-spec =

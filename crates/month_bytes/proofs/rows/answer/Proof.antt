@@ -4,10 +4,10 @@ use mathlib.Core.Bool.{Bool, true, false, ◌&&◌}
 use borrow.Author.Rules.{rules}
 use borrow.Author.Tests.{not-true, not-false}
 use Rattle.numbers.specs.Causes.{unless}
-use Rattle.rules.specs.Refusals.{badFigure}
-use Rattle.rules.specs.Month.{Tables, tables_of, monthCause}
+use Rattle.rules.specs.Refusals.{bad_figure}
+use Rattle.rules.specs.Month.{Tables, tables_of, month_cause}
 use Rattle.month_step.proofs.RangeLaws.{tests-decide, answered, refused-answer, done-answer}
-use Rattle.month_bytes.specs.Tables.{figuresOf}
+use Rattle.month_bytes.specs.Tables.{figures_of}
 use Rattle.month_bytes.proofs.rows.answer.Statement.{statement}
 use Rattle.month_bytes.proofs.rows.answer.Tie as tie
 
@@ -17,9 +17,9 @@ module _ (c : tie.After-volumes-ok2) where
   start = c.before.before.before.before.before
 
   abbrev asked : Tables
-  asked = let a = start.args in tables_of a.prices.now (figuresOf a.imbalance.now) a.rows a.dm.now a.group
+  asked = let a = start.args in tables_of a.prices.now (figures_of a.imbalance.now) a.rows a.dm.now a.group
 
-  decided : (t : Bool) → c.before.before.prices-ok.result && c.before.volumes-ok.result && c.volumes-ok2.result ≡ t → unless t badFigure ≡ monthCause asked
+  decided : (t : Bool) → c.before.before.prices-ok.result && c.before.volumes-ok.result && c.volumes-ok2.result ≡ t → unless t bad_figure ≡ month_cause asked
   decided =
       tests-decide asked start.pre.0.lengths true _ _ _ (sym start.pre.0.places)
       c.before.before.prices-ok.ensures

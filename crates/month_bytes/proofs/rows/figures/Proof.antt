@@ -5,10 +5,10 @@ use native.Mathlib.Omega.{arith}
 use lib.ListN.{length}
 use borrow.Author.Rules.{rules}
 use Rattle.numbers.specs.Sums.{sum}
-use Rattle.rules.specs.Month.{Tables, tables_of, weightedPrices, weights}
+use Rattle.rules.specs.Month.{Tables, tables_of, weighted_prices, weights}
 use Rattle.rules.proofs.Limits.{MonthRanges, month-ranges}
-use Rattle.month_step.proofs.TableLaws.{RowAdded, row-added, row-place, priced, besideDm, figures-are}
-use Rattle.month_bytes.specs.Tables.{figuresOf}
+use Rattle.month_step.proofs.TableLaws.{RowAdded, row-added, row-place, priced, beside_dm, figures-are}
+use Rattle.month_bytes.specs.Tables.{figures_of}
 use Rattle.month_bytes.proofs.rows.figures.Statement.{statement}
 use Rattle.month_bytes.proofs.rows.figures.Tie as tie
 
@@ -16,14 +16,14 @@ abbrev invariant-loop : tie.invariant-loop
 invariant-loop prices imbalance rows dm group row₀ hours weighted₀ weights₀ place₀ row weighted weight place =
     (place ≤ rows)
     × (length row ≡ length row₀)
-    × (weighted ≡ weightedPrices (tables_of prices (figuresOf imbalance) place dm group))
-    × (weight ≡ weights (tables_of prices (figuresOf imbalance) place dm group))
+    × (weighted ≡ weighted_prices (tables_of prices (figures_of imbalance) place dm group))
+    × (weight ≡ weights (tables_of prices (figures_of imbalance) place dm group))
 
 abbrev decreases-loop : tie.decreases-loop
 decreases-loop prices imbalance rows dm group row₀ hours weighted₀ weights₀ place₀ row weighted weights place = rows - place
 
 loop-holds : tie.Need-loop-init invariant-loop decreases-loop
-unfolding weightedPrices weights sum
+unfolding weighted_prices weights sum
 loop-holds c = (omega arith, refl, refl, refl)
 
 cast-row-sums : tie.Need-overflow-cast-row-sums invariant-loop decreases-loop
@@ -35,7 +35,7 @@ module _ (k : tie.At-loop invariant-loop decreases-loop) where
   start = k.before.before.before
 
   abbrev asked : Tables
-  asked = let a = start.args in tables_of a.prices.now (figuresOf a.imbalance.now) a.rows a.dm.now a.group
+  asked = let a = start.args in tables_of a.prices.now (figures_of a.imbalance.now) a.rows a.dm.now a.group
 
   ranges : MonthRanges asked
   ranges = month-ranges asked start.pre.0
@@ -89,7 +89,7 @@ mul-row-volume c =
 row-volume-requires : tie.Need-row-volume-requires invariant-loop decreases-loop
 row-volume-requires c κs =
     let k = c.before.before.before in
-    (besideDm (asked k) (ranges k), omega (arith, (ranges k).dms))
+    (beside_dm (asked k) (ranges k), omega (arith, (ranges k).dms))
 
 same_length : tie.Need-same-length invariant-loop decreases-loop
 same_length c = search rules

@@ -1,12 +1,12 @@
 -- `month_report::lent::refused_head` meets its contract. Assumes nothing.
 use mathlib.Core.Path.{refl}
-use Rattle.rules.specs.MonthReport.{refusedReport}
+use Rattle.rules.specs.MonthReport.{refused_report}
 use Rattle.month_report.specs.Heads.{head_of}
 use Rattle.month_report.proofs.lent.refused_head.Statement.{statement}
 use Rattle.month_report.proofs.lent.refused_head.Tie as tie
 
 returns : tie.Need-returns
-unfolding head_of refusedReport
+unfolding head_of refused_report
 returns c = refl
 
 pub refused-head-spec : {M : Type 1} → statement M

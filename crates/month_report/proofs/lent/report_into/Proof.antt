@@ -6,7 +6,7 @@ use native.Mathlib.Omega.{arith}
 use borrow.Author.Rules.{rules}
 use Rattle.calendar.specs.Calendar.{months}
 use Rattle.calendar.proofs.MonthLaws.{start-mono, start-end}
-use Rattle.rules.specs.Words.{isBook}
+use Rattle.rules.specs.Words.{is_book}
 use Rattle.entry_checks.proofs.Ladder.{passed, failed}
 use Rattle.month_report.proofs.ReportLaws.{MonthDays, month-days, no-book, no-month, done}
 use Rattle.month_report.proofs.lent.report_into.Statement.{statement}
@@ -17,7 +17,7 @@ module _ (b : tie.Else1) where
   abbrev start : tie.Start
   start = b.before.before.before
 
-  is_one : isBook start.args.book.now ≡ true
+  is_one : is_book start.args.book.now ≡ true
   is_one = passed b.before.is-book.ensures b.if1.left
 
 module _ (c : tie.After-month-start2) where

@@ -8,8 +8,8 @@ use lib.ListN.{get_or, drop}
 use Rattle.rules.specs.Entry.{Record, legal}
 use Rattle.rules.specs.Words.{decode}
 use Rattle.rules.proofs.WordLaws.{entry-facts}
-use Rattle.words.proofs.BookCode.{IsRead, is_read}
-use Rattle.month_report.specs.Lines.{mostInFigure}
+use Rattle.words.proofs.BookCode.{IsRead, is_read_lem}
+use Rattle.month_report.specs.Lines.{most_in_figure}
 use Rattle.month_report.proofs.LineLaws.{Taken, Small, type-in, line-in, small, adds, add_most}
 use borrow.Author.Rules.{rules}
 use Rattle.month_report.proofs.lines.add_entry.Statement.{statement}
@@ -30,7 +30,7 @@ module _ (s : tie.Start) where
   entry = decode (drop s.args.at words)
 
   read : IsRead (get_or words s.args.at 0) day figures entry
-  read = is_read words s.args.at s.pre.1.0
+  read = is_read_lem words s.args.at s.pre.1.0
 
   sound : legal entry ≡ true
   sound = (entry-facts (drop s.args.at words) s.pre.1.0).is-legal
@@ -116,7 +116,7 @@ add-to-requires-2 : tie.Need-add-to-requires-2
 add-to-requires-2 c κs =
     let a = c.before.before.before in
     let s = begun a in
-    let most = add_most mostInFigure s.args.lines.now (21 * (counted a).line-if.result + (placed a).line-place.result) a.amount-if.result (21 * s.args.days + (placed a).line-place.result) s.pre.1.1.1 in
+    let most = add_most most_in_figure s.args.lines.now (21 * (counted a).line-if.result + (placed a).line-place.result) a.amount-if.result (21 * s.args.days + (placed a).line-place.result) s.pre.1.1.1 in
     rw c.before.add-to.ensures (omega (arith, bounds a, s.pre.1.1.0, most))
 
 returns : tie.Need-returns

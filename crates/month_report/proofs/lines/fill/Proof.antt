@@ -4,14 +4,14 @@ use Rattle.rules.proofs.WordLaws.{book-facts}
 use Rattle.words.proofs.BookCode.{book-entry}
 use Rattle.cells.specs.Cells.{added, blank, filled}
 use Rattle.cells.proofs.ScanLaws.{Scanned, scan-start, scan-more, scan-done, scan-within, scan-below}
-use Rattle.month_report.specs.Lines.{reportCells, lines_of}
+use Rattle.month_report.specs.Lines.{report_cells, lines_of}
 use Rattle.month_report.proofs.LineLaws.{report-limited}
 use borrow.Author.Rules.{rules}
 use Rattle.month_report.proofs.lines.fill.Statement.{statement}
 use Rattle.month_report.proofs.lines.fill.Tie as tie
 
 abbrev invariant-loop : tie.invariant-loop
-invariant-loop book first days lines₀ count i₀ lines i = Scanned (added (reportCells first days)) (blank 672) book count i lines
+invariant-loop book first days lines₀ count i₀ lines i = Scanned (added (report_cells first days)) (blank 672) book count i lines
 
 abbrev decreases-loop : tie.decreases-loop
 decreases-loop book first days lines₀ count i₀ lines i = count - i

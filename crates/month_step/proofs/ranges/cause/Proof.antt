@@ -4,8 +4,8 @@ use mathlib.Core.Bool.{Bool, true, false, ◌&&◌}
 use borrow.Author.Rules.{rules}
 use borrow.Author.Tests.{not-true, not-false}
 use Rattle.numbers.specs.Causes.{unless}
-use Rattle.rules.specs.Refusals.{badFigure}
-use Rattle.rules.specs.Month.{Tables, tables_of, monthCause}
+use Rattle.rules.specs.Refusals.{bad_figure}
+use Rattle.rules.specs.Month.{Tables, tables_of, month_cause}
 use Rattle.month_step.proofs.RangeLaws.{lengths-refused, tests-decide}
 use Rattle.month_step.proofs.ranges.cause.Statement.{statement}
 use Rattle.month_step.proofs.ranges.cause.Tie as tie
@@ -36,7 +36,7 @@ module _ (c : tie.After-volumes-ok2) where
   abbrev agreed : tie.Else1
   agreed = c.before.before.before.before
 
-  decided : (t : Bool) → c.before.before.before.places-ok.result && c.before.before.prices-ok.result && c.before.volumes-ok.result && c.volumes-ok2.result ≡ t → unless t badFigure ≡ monthCause (asked agreed.before.before.before)
+  decided : (t : Bool) → c.before.before.before.places-ok.result && c.before.before.prices-ok.result && c.before.volumes-ok.result && c.volumes-ok2.result ≡ t → unless t bad_figure ≡ month_cause (asked agreed.before.before.before)
   decided =
       tests-decide (asked agreed.before.before.before) (sym agreed.before.lengths-agree.ensures ∙ not-false _ agreed.if1.left) _ _ _ _
       c.before.before.before.places-ok.ensures

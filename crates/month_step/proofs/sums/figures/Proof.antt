@@ -3,9 +3,9 @@ use mathlib.Core.Path.{◌≡◌, refl}
 use Prim.Native.Nat.{◌-◌, ◌≤◌}
 use native.Mathlib.Omega.{arith}
 use Rattle.numbers.specs.Sums.{sum}
-use Rattle.rules.specs.Month.{Tables, tables_of, weightedPrices, weights}
+use Rattle.rules.specs.Month.{Tables, tables_of, weighted_prices, weights}
 use Rattle.rules.proofs.Limits.{MonthRanges, month-ranges}
-use Rattle.month_step.proofs.TableLaws.{RowAdded, row-added, row-place, priced, besideDm, figures-are}
+use Rattle.month_step.proofs.TableLaws.{RowAdded, row-added, row-place, priced, beside_dm, figures-are}
 use borrow.Author.Rules.{rules}
 use Rattle.month_step.proofs.sums.figures.Statement.{statement}
 use Rattle.month_step.proofs.sums.figures.Tie as tie
@@ -13,14 +13,14 @@ use Rattle.month_step.proofs.sums.figures.Tie as tie
 abbrev invariant-loop : tie.invariant-loop
 invariant-loop prices imbalance rows dm group hours weighted₀ weights₀ row₀ weighted weight row =
     (row ≤ rows)
-    × (weighted ≡ weightedPrices (tables_of prices imbalance row dm group))
+    × (weighted ≡ weighted_prices (tables_of prices imbalance row dm group))
     × (weight ≡ weights (tables_of prices imbalance row dm group))
 
 abbrev decreases-loop : tie.decreases-loop
 decreases-loop prices imbalance rows dm group hours weighted₀ weights₀ row₀ weighted weights row = rows - row
 
 loop-holds : tie.Need-loop-init invariant-loop decreases-loop
-unfolding weightedPrices weights sum
+unfolding weighted_prices weights sum
 loop-holds c = (omega arith, refl, refl)
 
 cast-row-sums : tie.Need-overflow-cast-row-sums invariant-loop decreases-loop
@@ -80,7 +80,7 @@ mul-row-volume c =
     omega (arith, row-place (asked k) (ranges k) (start k).args.group (ranges k).group)
 
 row-volume-requires : tie.Need-row-volume-requires invariant-loop decreases-loop
-row-volume-requires c κs = let k = c.before.before in besideDm (asked k) (ranges k)
+row-volume-requires c κs = let k = c.before.before in beside_dm (asked k) (ranges k)
 
 returns : tie.Need-returns invariant-loop decreases-loop
 returns c =

@@ -5,7 +5,7 @@ use native.Mathlib.Omega.{arith}
 use lib.IntN.{nat_abs}
 use lib.ListN.{length}
 use Rattle.numbers.specs.Sums.{sum}
-use Rattle.month_step.specs.Rows.{figureAt, firstWeighted, firstWeights}
+use Rattle.month_step.specs.Rows.{figure_at, first_weighted, first_weights}
 use Rattle.month_step.proofs.BitLaws.{exact32}
 use Rattle.month_step.proofs.RowLaws.{HourPriced, hour-priced}
 use borrow.Author.Rules.{rules}
@@ -14,13 +14,13 @@ use Rattle.month_step.proofs.sums.row_sums.Tie as tie
 
 abbrev invariant-loop : tie.invariant-loop
 invariant-loop prices imbalance at weighted₀ weights₀ h₀ weighted weights h =
-    (h ≤ length prices) × (weighted ≡ firstWeighted prices imbalance at h) × (weights ≡ firstWeights imbalance at h)
+    (h ≤ length prices) × (weighted ≡ first_weighted prices imbalance at h) × (weights ≡ first_weights imbalance at h)
 
 abbrev decreases-loop : tie.decreases-loop
 decreases-loop prices imbalance at weighted₀ weights₀ h₀ weighted weights h = length prices - h
 
 loop-holds : tie.Need-loop-init invariant-loop decreases-loop
-unfolding firstWeighted firstWeights sum
+unfolding first_weighted first_weights sum
 loop-holds c = (omega arith, refl, refl)
 
 add-size : tie.Need-overflow-add-size invariant-loop decreases-loop
@@ -58,7 +58,7 @@ module _ (c : tie.After-shared-slice-known2 invariant-loop decreases-loop) where
       hour-priced asked.args.prices.now asked.args.imbalance.now asked.args.at here.loop.h
       asked.pre
       c.before.before.before.loop-test.true
-      (c.before.size.ensures ∙ ap nat_abs (exact32 (figureAt asked.args.imbalance.now asked.args.at here.loop.h) c.before.before.size-arg.given))
+      (c.before.size.ensures ∙ ap nat_abs (exact32 (figure_at asked.args.imbalance.now asked.args.at here.loop.h) c.before.before.size-arg.given))
       here.loop.inv.1
       here.loop.inv.2
 

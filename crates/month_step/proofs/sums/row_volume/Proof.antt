@@ -8,21 +8,21 @@ use lib.ListN.{length, get_or}
 use borrow.Author.Rules.{rules}
 use mir.Syntax.{w64}
 use mir.Val.{to_z}
-use Rattle.numbers.specs.Signed.{sumℤ}
-use Rattle.month_step.specs.Rows.{figureAt, firstVolume}
+use Rattle.numbers.specs.Signed.{sum_ℤ}
+use Rattle.month_step.specs.Rows.{figure_at, first_volume}
 use Rattle.month_step.proofs.BitLaws.{exact32}
 use Rattle.month_step.proofs.RowLaws.{HourLess, hour-less}
 use Rattle.month_step.proofs.sums.row_volume.Statement.{statement}
 use Rattle.month_step.proofs.sums.row_volume.Tie as tie
 
 abbrev invariant-loop : tie.invariant-loop
-invariant-loop imbalance at dm volume₀ h₀ volume h = (h ≤ length dm) × (to_z w64 volume ≡ firstVolume imbalance at dm h)
+invariant-loop imbalance at dm volume₀ h₀ volume h = (h ≤ length dm) × (to_z w64 volume ≡ first_volume imbalance at dm h)
 
 abbrev decreases-loop : tie.decreases-loop
 decreases-loop imbalance at dm volume₀ h₀ volume h = length dm - h
 
 loop-holds : tie.Need-loop-init invariant-loop decreases-loop
-unfolding firstVolume sumℤ
+unfolding first_volume sum_ℤ
 loop-holds c = (omega arith, refl)
 
 add-difference : tie.Need-overflow-add-difference invariant-loop decreases-loop
@@ -64,7 +64,7 @@ module _ (c : tie.After-difference invariant-loop decreases-loop) where
   turn =
       hour-less imbalance at dm h here.before.pre c.before.before.before.loop-test.true here.loop.inv.1
       (c.difference.ensures
-      ∙ ap₂ ◌-ℤ◌ (exact32 (figureAt imbalance at h) c.before.before.difference-arg.given) (exact32 (get_or dm h (pos 0)) c.before.difference-arg2.given))
+      ∙ ap₂ ◌-ℤ◌ (exact32 (figure_at imbalance at h) c.before.before.difference-arg.given) (exact32 (get_or dm h (pos 0)) c.before.difference-arg2.given))
 
 add-volume : tie.Need-overflow-add-volume invariant-loop decreases-loop
 add-volume c = (turn c).added

@@ -1,7 +1,7 @@
 -- `trading_debts::window::add_entry` meets its contract. Assumes nothing.
 use native.Mathlib.Omega.{arith}
 use borrow.Author.Tests.{lt-ltb, le-ltb}
-use Rattle.cells.specs.Cells.{added, addToEach}
+use Rattle.cells.specs.Cells.{added, add_to_each}
 use borrow.Author.Rules.{rules}
 use Rattle.trading_debts.proofs.window.add_entry.Statement.{statement}
 use Rattle.trading_debts.proofs.window.add_entry.Tie as tie
@@ -27,13 +27,13 @@ element-write-cells : tie.Need-element-write-cells
 element-write-cells c = search rules
 
 returns : tie.Need-returns
-unfolding added addToEach
+unfolding added add_to_each
 returns c =
     let cell = c.before.before.before.Cell-at in
     rw (← cell.ensures, lt-ltb cell.result 120 c.before.before.if1.true, c.before.amount-at.ensures)
 
 returns-2 : tie.Need-returns-2
-unfolding added addToEach
+unfolding added add_to_each
 returns-2 c = rw (← c.before.Cell-at.ensures, le-ltb c.before.Cell-at.result 120 c.if1.false)
 
 pub add-entry-spec : {M : Type 1} → statement M

@@ -3,15 +3,15 @@ use mathlib.Core.Path.{refl}
 use Prim.Native.Nat.{◌-◌}
 use Rattle.rules.proofs.WordLaws.{book-facts, legal-bounds}
 use Rattle.cells.specs.Cells.{added, blank, filled}
-use Rattle.cells.proofs.ScanLaws.{Scanned, readAt, scan-start, scan-more, scan-done, scan-within, scan-below, legal-at}
-use Rattle.trading_debts.specs.Window.{windowCells, windowOf}
+use Rattle.cells.proofs.ScanLaws.{Scanned, read_at, scan-start, scan-more, scan-done, scan-within, scan-below, legal-at}
+use Rattle.trading_debts.specs.Window.{window_cells, window_of}
 use Rattle.trading_debts.proofs.WindowLaws.{window-limited}
 use borrow.Author.Rules.{rules}
 use Rattle.trading_debts.proofs.window.window_of.Statement.{statement}
 use Rattle.trading_debts.proofs.window.window_of.Tie as tie
 
 abbrev invariant-loop : tie.invariant-loop
-invariant-loop book party day cells₀ count i₀ cells i = Scanned (added (windowCells party day)) (blank 120) book count i cells
+invariant-loop book party day cells₀ count i₀ cells i = Scanned (added (window_cells party day)) (blank 120) book count i cells
 
 abbrev decreases-loop : tie.decreases-loop
 decreases-loop book party day cells₀ count i₀ cells i = count - i
@@ -36,7 +36,7 @@ add-entry-requires c κs =
     rw c.place_of.ensures (
       scan-within b s.requires k.loop.i e below,
       (
-        (legal-bounds (readAt b k.loop.i) (legal-at b s.requires k.loop.i (rw e at below))).amount,
+        (legal-bounds (read_at b k.loop.i) (legal-at b s.requires k.loop.i (rw e at below))).amount,
         scan-below b s.requires 120 (window-limited s.args.party s.args.day) e k.loop.invariant,
       ),
     )
@@ -53,7 +53,7 @@ loop-again c =
     scan-more c.before.before.before.loop-test.true k.loop.invariant (rw c.before.place_of.ensures at c.add-entry.ensures)
 
 returns : tie.Need-returns invariant-loop decreases-loop
-unfolding windowOf filled
+unfolding window_of filled
 returns c =
     let k = c.before in
     let s = k.before.before.before in
