@@ -1,5 +1,6 @@
 // The month that arguments name, against the list on standard input: how many arguments there are, the month that must come
 // back, and after a space the bytes of the first. '#' at a line's start makes it a comment.
+#![tactic(auto)]
 ghost use Rattle.std.specs.Prelude.{◌≤◌, length};
 
 use caselist::score::{Score, told};

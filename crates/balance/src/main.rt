@@ -1,5 +1,6 @@
 // Reads a day file from standard input into a default book, and prints each party and day that it names
 // with both balances (document 01, 'Day file'). A read or a write that fails is said on standard error.
+#![tactic(auto)]
 use libc::{STDERR_FILENO, STDIN_FILENO, STDOUT_FILENO};
 
 fn say_read(failed: bool) {

@@ -1,4 +1,5 @@
 // Runs the report on each file that the arguments name, under its name.
+#![tactic(auto)]
 use libc::STDOUT_FILENO;
 
 // Prints the name, and answers the descriptor of its file.

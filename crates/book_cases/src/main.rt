@@ -1,5 +1,6 @@
 // Runs the list of calls on standard input against the book. Each call's answer, and every word of the lent slice after it,
 // is compared with what the list says; the list is written from document 01 by hand.
+#![tactic(auto)]
 mod reads;
 mod writes;
 

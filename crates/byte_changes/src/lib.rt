@@ -1,4 +1,5 @@
 // Internal: a post, a withdrawal or a control on a book in lent bytes. The caller of each function with a `requires` meets it.
+#![tactic(auto)]
 ghost use Rattle.std.specs.Prelude.{◌≡◌, ◌≤◌, length};
 ghost use Rattle.rules.specs.Words.{book_words};
 ghost use Rattle.rules.specs.Calls.{words_after};
@@ -12,7 +13,7 @@ use rules::layout::BOOK_WORDS;
 use word_bytes::sizes::{MIDDLE_WORDS, SMALL_WORDS, WIDE_WORDS};
 
 // What is asked of a book.
-#[derive(Drop)]
+#[derive(Clone, Copy)]
 pub enum Request {
     Post(Key, u64),
     Withdraw(u32),
@@ -20,7 +21,7 @@ pub enum Request {
 }
 
 // The answer, with the figures of each request.
-#[derive(Drop)]
+#[derive(Clone, Copy)]
 pub struct Done {
     pub answer: u32,
     pub number: u32,

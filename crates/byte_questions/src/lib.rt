@@ -1,5 +1,6 @@
 // Internal: questions about a book in lent bytes: the number of entries, one entry, a tally, a balance. The caller of each
 // function with a `requires` meets it.
+#![tactic(auto)]
 ghost use Rattle.std.specs.Prelude.{◌≡◌, ◌≤◌, length};
 ghost use Rattle.rules.specs.Words.{book_words};
 ghost use Rattle.word_bytes.specs.Coding.{needed_for};
@@ -11,7 +12,7 @@ use rules::{BalanceAnswer, Counted, EntryRead, TallyAnswer};
 use word_bytes::sizes::{MIDDLE_WORDS, SMALL_WORDS, WIDE_WORDS};
 
 // What is asked: a tally and a balance of a party and a day, the balance of the day-ahead or of delivery.
-#[derive(Drop)]
+#[derive(Clone, Copy)]
 pub enum Question {
     Count,
     Entry(u32),
@@ -21,7 +22,7 @@ pub enum Question {
 }
 
 // The answer to one question; those to the others are zero.
-#[derive(Drop)]
+#[derive(Clone, Copy)]
 pub struct Reply {
     pub counted: Counted,
     pub entry: EntryRead,

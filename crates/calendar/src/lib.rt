@@ -1,4 +1,5 @@
 // The billing period of a day, found in a table of the months' first days.
+#![tactic(auto)]
 ghost use Rattle.std.specs.Prelude.{◌≡◌};
 ghost use Rattle.calendar.specs.Calendar.{month_of};
 

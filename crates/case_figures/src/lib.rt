@@ -1,10 +1,11 @@
 // A collateral case, put together one figure at a time (01, 'Collateral'), and the month answers that it holds.
+#![tactic(auto)]
 ghost use Rattle.std.specs.Prelude.{◌≡◌};
 ghost use Rattle.case_figures.specs.CaseFigures.{plain_case, with_party, with_day, with_licence, with_holiday, with_responsible, with_capacity, with_nonbusiness, with_defaults, with_months, with_used, with_rk, with_rt, with_yt, with_score, with_best};
 
 // A month's average price (AOSMF) and imbalance volume (AEDM).
 #[repr(C)]
-#[derive(Drop)]
+#[derive(Clone, Copy)]
 pub struct Month {
     pub aosmf: u64,
     pub aedm: i64,
@@ -12,7 +13,7 @@ pub struct Month {
 
 // The party and the day g of a collateral case.
 #[repr(C)]
-#[derive(Drop)]
+#[derive(Clone, Copy)]
 pub struct Asked {
     pub party: u32,
     pub day: u32,
@@ -20,7 +21,7 @@ pub struct Asked {
 
 // Licence: 0 supply, 1 transmission, 2 generation; installed capacity in kW.
 #[repr(C)]
-#[derive(Drop)]
+#[derive(Clone, Copy)]
 pub struct Margin {
     pub licence: u32,
     pub capacity: u64,
@@ -28,7 +29,7 @@ pub struct Margin {
 
 // Non-business days h, whether g is before a holiday (1 or 0), default days t.
 #[repr(C)]
-#[derive(Drop)]
+#[derive(Clone, Copy)]
 pub struct Trading {
     pub nonbusiness: u32,
     pub holiday: u32,
@@ -38,7 +39,7 @@ pub struct Trading {
 // Whether the party is responsible for its balancing group (1 or 0); three month answers, latest first;
 // how many of them are used (n); the risk coefficient RK in hundredths; the risk collateral RT.
 #[repr(C)]
-#[derive(Drop)]
+#[derive(Clone, Copy)]
 pub struct Group {
     pub responsible: u32,
     pub months: [Month; 3],
@@ -49,7 +50,7 @@ pub struct Group {
 
 // YT; the credit score T, 0 without consent; the best credit score M.
 #[repr(C)]
-#[derive(Drop)]
+#[derive(Clone, Copy)]
 pub struct Yek {
     pub yt: u64,
     pub score: u32,
@@ -58,7 +59,7 @@ pub struct Yek {
 
 // A collateral case, by the items that its figures go into.
 #[repr(C)]
-#[derive(Drop)]
+#[derive(Clone, Copy)]
 pub struct Case {
     pub asked: Asked,
     pub margin: Margin,

@@ -6,7 +6,7 @@ const WIDTH: usize = 16;
 
 const ROWS: usize = 1000;
 
-#[derive(Drop)]
+#[derive(Clone, Copy)]
 pub struct Row {
     pub line: u64,
     pub call: u8,
@@ -27,7 +27,7 @@ pub struct Row {
 }
 
 // How far the text has been read: rows before this one, its columns, its line, and the figure begun.
-#[derive(Drop)]
+#[derive(Clone, Copy)]
 struct Scan {
     row: usize,
     column: usize,

@@ -2,7 +2,7 @@
 use crate::rows::{Row, low};
 use libc::STDOUT_FILENO;
 
-#[derive(Drop)]
+#[derive(Clone, Copy)]
 pub struct Score {
     pub lent: usize,
     pub checks: u64,

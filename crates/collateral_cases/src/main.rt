@@ -1,4 +1,5 @@
 // Collateral against the list on standard input, whose figures are worked out by hand from document 01, 'Collateral'.
+#![tactic(auto)]
 mod figures;
 
 use case_figures::Case;

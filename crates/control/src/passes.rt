@@ -16,7 +16,7 @@ use rules::layout::{BILATERAL, CANCELLED, ENTRY_WORDS, HEAD_WORDS, MARK, STANDIN
 use rules::{Entry, Key};
 
 // The parties detected in a pass and the entries cancelled.
-#[derive(Drop)]
+#[derive(Clone, Copy)]
 pub struct Passed {
     pub parties: u32,
     pub entries: u32,

@@ -1,5 +1,6 @@
 // Controls of days against the list on standard input, whose figures are worked out by hand from document 01. After each call
 // every lent word is compared with the words that the list says.
+#![tactic(auto)]
 mod writes;
 
 use caselist::rows::{Row, low};

@@ -1,4 +1,5 @@
 // The parties and days that a file names: blocks, and counterparties above 0.
+#![tactic(auto)]
 ghost use Rattle.std.specs.Prelude.{◌≡◌, true, false, ◌||◌, ℕ, ◌<◌, length, get_or, set};
 ghost use Rattle.numbers.specs.Tests.{any};
 ghost use Rattle.rules.specs.DayFile.{item_names, file_names};

@@ -11,7 +11,7 @@ pub struct Reader<'a> {
 }
 
 // What stands at a byte: a whole word and the byte after it, or none and the byte itself.
-#[derive(Drop)]
+#[derive(Clone, Copy)]
 pub struct Found {
     pub whole: bool,
     pub word: u32,
@@ -27,7 +27,7 @@ pub struct Taken<'a> {
 }
 
 // The words of a head or a line: whether the first is whole, whether all are, and the words.
-#[derive(Drop)]
+#[derive(Clone, Copy)]
 pub struct Piece {
     pub any: bool,
     pub whole: bool,

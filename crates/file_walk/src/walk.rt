@@ -9,7 +9,7 @@ use rules::Key;
 use rules::layout::{HIGH_AMOUNT, KIND, LOW_AMOUNT, PARTIES, STATUS, TYPES};
 
 // How the form of a file stands: the lines of the block still to come, whether the pass goes on, and whether what was read has its form.
-#[derive(Drop)]
+#[derive(Clone, Copy)]
 pub struct Form {
     pub left: u32,
     pub going: bool,

@@ -1,4 +1,5 @@
 // The writer's side of a day file: a block's head and a line as words, and a word as bytes.
+#![tactic(auto)]
 ghost use Rattle.std.specs.Prelude.{◌≡◌, length};
 ghost use Rattle.file_writer.specs.Write.{head_words, line_words, put_cause, put_words};
 
@@ -10,7 +11,7 @@ use rules::layout::{
 
 // A block's head; refused by 12 where a figure does not fit its bits.
 #[repr(C)]
-#[derive(Drop)]
+#[derive(Clone, Copy)]
 pub struct HeadWords {
     pub answer: u32,
     pub first: u32,
@@ -19,7 +20,7 @@ pub struct HeadWords {
 
 // A line, likewise.
 #[repr(C)]
-#[derive(Drop)]
+#[derive(Clone, Copy)]
 pub struct LineWords {
     pub answer: u32,
     pub figures: u32,

@@ -1,4 +1,5 @@
 // The calls for hosts in C that change a book of words, in place. A host owes 4-byte alignment.
+#![tactic(auto)]
 ghost use Rattle.std.specs.Prelude.{◌≡◌, length};
 ghost use Rattle.rules.specs.Entry.{key_of};
 ghost use Rattle.rules.specs.Book.{open_cause, open_words, open_default_cause, open_default_words};

@@ -1,4 +1,5 @@
 // The calls for hosts in C that only read a book of words, where it lies. A host owes 4-byte alignment.
+#![tactic(auto)]
 ghost use Rattle.std.specs.Prelude.{◌≡◌};
 ghost use Rattle.rules.specs.Words.{is_book};
 ghost use Rattle.rules.specs.Book.{count_answer, read_answer};

@@ -1,5 +1,6 @@
 // Reads a day file from standard input into a default book, and prints the report of the month that its only argument
 // names (document 02, T-01). A read or a write that fails is said on standard error.
+#![tactic(auto)]
 use libc::{STDERR_FILENO, STDIN_FILENO, STDOUT_FILENO};
 
 // The longest argument that Linux passes has one byte less; one that did not fit would count as empty.

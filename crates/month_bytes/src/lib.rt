@@ -1,4 +1,5 @@
 // The month step on tables in lent bytes, little-endian (document 01, 'Month step').
+#![tactic(auto)]
 ghost use Rattle.std.specs.Prelude.{◌≡◌, ◌&&◌, length};
 ghost use Rattle.rules.specs.Month.{month_answer};
 ghost use Rattle.month_step.specs.Ranges.{Placed};

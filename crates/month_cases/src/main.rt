@@ -1,5 +1,6 @@
 // The month step, the sales ceiling, first days of months and |x| against the list on standard input, whose figures are worked
 // out by hand from documents 01 and 02.
+#![tactic(auto)]
 mod tables;
 
 use caselist::rows::{Row, low, signed};

@@ -3,7 +3,7 @@ use caselist::rows::{Row, low, signed_low};
 use caselist::words::put;
 
 // How many prices, volumes of imbalance and volumes of DM there are.
-#[derive(Drop)]
+#[derive(Clone, Copy)]
 pub struct Lengths {
     pub prices: u32,
     pub imbalance: u32,

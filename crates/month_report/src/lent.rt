@@ -12,7 +12,7 @@ use rules::bounds::MONTHS;
 use rules::causes::{BAD_FIGURE, NOT_A_BOOK};
 
 // A report without its lines.
-#[derive(Drop)]
+#[derive(Clone, Copy)]
 pub struct Head {
     pub answer: u32,
     pub month: u32,

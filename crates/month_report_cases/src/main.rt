@@ -1,4 +1,5 @@
 // Month reports against the list on standard input, whose figures are worked out by hand from document 02, T-01.
+#![tactic(auto)]
 use caselist::rows::{Row, low};
 use caselist::score::{Score, told};
 use rules::{LINE_SUMS, MonthReport, REPORT_FIGURES};

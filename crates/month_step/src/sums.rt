@@ -8,7 +8,7 @@ use crate::sizes;
 use case_figures::Month;
 
 // The two sums that AOSMF divides.
-#[derive(Drop)]
+#[derive(Clone, Copy)]
 pub struct Sums {
     pub weighted: u64,
     pub weights: u64,

@@ -1,5 +1,6 @@
 // Prints the 1,201 entries of the table of months, one a line, from the Gregorian rule (02, T-08). It looks at neither
 // its arguments nor its input. A write that fails is said on standard error.
+#![tactic(auto)]
 use libc::{STDERR_FILENO, STDOUT_FILENO};
 
 fn main() {

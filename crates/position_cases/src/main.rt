@@ -1,4 +1,5 @@
 // Both balances and the tally against the list on standard input, whose figures are worked out by hand from document 01.
+#![tactic(auto)]
 use caselist::rows::{Row, low};
 use caselist::score::{Score, told};
 use rules::{BalanceAnswer, TallyAnswer};

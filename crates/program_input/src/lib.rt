@@ -1,4 +1,5 @@
 // Internal: a descriptor read to its end, or to the buffer's. No contract can say what is read.
+#![tactic(auto)]
 ghost use Rattle.std.specs.Prelude.{◌+◌, ◌≤◌, length};
 
 // How many bytes came, or that a read failed.

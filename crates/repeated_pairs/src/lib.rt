@@ -1,4 +1,5 @@
 // Internal: the buyers of repeated pairs, by two scans of a checked book. A caller meets each `requires`.
+#![tactic(auto)]
 ghost use Rattle.std.specs.Prelude.{◌≡◌, true, false, cond, length};
 ghost use Rattle.calendar.specs.Calendar.{month_of};
 ghost use Rattle.rules.specs.Entry.{legal, record_in};
@@ -24,7 +25,7 @@ const FEW_WORDS: usize = FEW_BITS / 64;
 const ALL_WORDS: usize = 16000;
 
 // The days of a billing period: its first, and the first of the next.
-#[derive(Drop)]
+#[derive(Clone, Copy)]
 struct Period {
     first: u64,
     next: u64,

@@ -1,4 +1,5 @@
 // Document 01 as definitions (specs/) and the data types that calls take and answer. No code.
+#![tactic(auto)]
 use case_figures::Month;
 
 pub mod bounds;
@@ -7,7 +8,7 @@ pub mod layout;
 
 // A post's answer: 0 and the entry's number, counted from 0, or the cause.
 #[repr(C)]
-#[derive(Drop)]
+#[derive(Clone, Copy)]
 pub struct Posted {
     pub answer: u32,
     pub number: u32,
@@ -15,14 +16,14 @@ pub struct Posted {
 
 // The number of entries of a book.
 #[repr(C)]
-#[derive(Drop)]
+#[derive(Clone, Copy)]
 pub struct Counted {
     pub answer: u32,
     pub count: u32,
 }
 
 // What an entry is for: the four figures that a post names beside its amount.
-#[derive(Drop)]
+#[derive(Clone, Copy)]
 pub struct Key {
     pub party: u32,
     pub day: u32,
@@ -31,7 +32,7 @@ pub struct Key {
 }
 
 // An entry of a book.
-#[derive(Drop)]
+#[derive(Clone, Copy)]
 pub struct Entry {
     pub key: Key,
     pub status: u32,
@@ -40,7 +41,7 @@ pub struct Entry {
 
 // The answer to a call for one entry.
 #[repr(C)]
-#[derive(Drop)]
+#[derive(Clone, Copy)]
 pub struct EntryRead {
     pub answer: u32,
     pub party: u32,
@@ -53,7 +54,7 @@ pub struct EntryRead {
 
 // A balance in hundredths of a kWh.
 #[repr(C)]
-#[derive(Drop)]
+#[derive(Clone, Copy)]
 pub struct BalanceAnswer {
     pub answer: u32,
     pub balance: i64,
@@ -64,7 +65,7 @@ pub const SUMS: usize = 17;
 
 // A party's sums of a day, one for each volume type: 1 to 16, and 22 last.
 #[repr(C)]
-#[derive(Drop)]
+#[derive(Clone, Copy)]
 pub struct Tally {
     pub party: u32,
     pub sums: [u64; SUMS],
@@ -72,7 +73,7 @@ pub struct Tally {
 
 // A tally, and B: what others sold to the party by bilateral sale.
 #[repr(C)]
-#[derive(Drop)]
+#[derive(Clone, Copy)]
 pub struct TallyAnswer {
     pub answer: u32,
     pub tally: Tally,
@@ -80,7 +81,7 @@ pub struct TallyAnswer {
 }
 
 #[repr(C)]
-#[derive(Drop)]
+#[derive(Clone, Copy)]
 pub struct MonthAnswer {
     pub answer: u32,
     pub month: Month,
@@ -88,7 +89,7 @@ pub struct MonthAnswer {
 
 // Whether an offer is recordable, 1 or 0.
 #[repr(C)]
-#[derive(Drop)]
+#[derive(Clone, Copy)]
 pub struct CeilingAnswer {
     pub answer: u32,
     pub recordable: u32,
@@ -96,7 +97,7 @@ pub struct CeilingAnswer {
 
 // The first day of a month (02, T-08).
 #[repr(C)]
-#[derive(Drop)]
+#[derive(Clone, Copy)]
 pub struct FirstDayAnswer {
     pub answer: u32,
     pub day: u32,
@@ -111,7 +112,7 @@ pub const REPORT_FIGURES: usize = 672;
 // A month report (02, T-01): the month, its first day, how many days it has, and the sums line by line. Line i, from
 // LINE_SUMS * i on, is that of day first_day + i; the line after the last day has the month's totals.
 #[repr(C)]
-#[derive(Drop)]
+#[derive(Clone, Copy)]
 pub struct MonthReport {
     pub answer: u32,
     pub month: u32,
@@ -122,7 +123,7 @@ pub struct MonthReport {
 
 // The parties detected in each pass of a control, and the entries it cancelled.
 #[repr(C)]
-#[derive(Drop)]
+#[derive(Clone, Copy)]
 pub struct Controlled {
     pub answer: u32,
     pub first: u32,
@@ -132,7 +133,7 @@ pub struct Controlled {
 
 // How many lines of a day file were posted.
 #[repr(C)]
-#[derive(Drop)]
+#[derive(Clone, Copy)]
 pub struct FileRead {
     pub answer: u32,
     pub posted: u32,
@@ -140,7 +141,7 @@ pub struct FileRead {
 
 // Each item of collateral and the total, in kurus.
 #[repr(C)]
-#[derive(Drop)]
+#[derive(Clone, Copy)]
 pub struct Collateral {
     pub answer: u32,
     pub margin: u64,

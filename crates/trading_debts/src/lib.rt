@@ -1,4 +1,5 @@
 // Internal: the debts of the latest days that each market chooses (01, 'Collateral', Trading). A caller meets each `requires`.
+#![tactic(auto)]
 ghost use Rattle.std.specs.Prelude.{◌≡◌, true, cond, ◌+◌, ◌-◌, ◌*◌, ◌≤◌, min};
 ghost use Rattle.rules.specs.Words.{is_book, entries};
 ghost use Rattle.rules.specs.Collateral.{debts, money_of};
@@ -54,7 +55,7 @@ fn owed_on(
 }
 
 // The debts of the days passed, and the days that each market still chooses.
-#[derive(Drop)]
+#[derive(Clone, Copy)]
 struct Walk {
     debt: u64,
     ahead: u32,
