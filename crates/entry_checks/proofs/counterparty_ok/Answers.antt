@@ -1,17 +1,16 @@
 -- `entry_checks::counterparty_ok` meets its contract. Assumes nothing.
-use mathlib.Core.Path.{◌≡◌, refl, ◌∙◌}
+use mathlib.Core.Path.{◌≡◌, refl}
 use mathlib.Core.Logic.{inl, inr}
 use mathlib.Core.Bool.{false, not, ◌&&◌, and-true, and-false}
 use Prim.Native.Nat.{ℕ, zero, suc}
 use lib.Dec.{eqb, leb}
 use native.Mathlib.Omega.{arith}
-use borrow.Author.Rules.{rules}
 use borrow.Author.Tests.{lt-leb, ne_eqb}
 use Rattle.numbers.proofs.TestLaws.{bool_cases}
 use Rattle.rules.specs.Entry.{key_of, counterparty_ok, bilateral}
 use Rattle.entry_checks.specs.Parts.{counterparty_limit}
-use Rattle.entry_checks.proofs.counterparty_ok.Statement.{statement}
-use Rattle.entry_checks.proofs.counterparty_ok.Tie as tie
+use Rattle.entry_checks.proofs.counterparty_ok.Goals as goal
+
 
 none-but-0 : (c : ℕ) → leb c 0 && not false ≡ eqb c 0
 none-but-0 zero = refl
@@ -25,11 +24,5 @@ by-limit p d t c =
       | inr e ↦ rw (e, and-false (eqb c p)) (none-but-0 c)
     ]
 
-counterparty-limit-requires : tie.Need-counterparty-limit-requires
-counterparty-limit-requires c κs = search rules
-
-returns : tie.Need-returns
-returns c = rw c.before.before.before.counterparty-limit.ensures (by-limit _ _ _ _)
-
-pub counterparty-ok-spec : {M : Type 1} → statement M
-counterparty-ok-spec = tie.close (tie.spec counterparty-limit-requires returns)
+pub returns : goal.returns
+returns c = rw c.counterparty_limit.ensures (by-limit _ _ _ _)
