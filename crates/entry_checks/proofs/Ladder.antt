@@ -1,14 +1,13 @@
 -- What a call's result and a branch on it tell of a test. Assumes nothing.
 use mathlib.Core.Path.{◌≡◌, sym, ◌∙◌}
-use mathlib.Core.Bool.{Bool, true, false, not}
+use mathlib.Core.Bool.{Bool, true, false}
 use Prim.Native.Nat.{ℕ, ◌≤◌, ◌<◌}
-use borrow.Author.Tests.{not-true, not-false}
 
-pub passed : {r t : Bool} → r ≡ t → not r ≡ false → t ≡ true
-passed {r} e h = sym e ∙ not-false r h
+pub passed : {r t : Bool} → r ≡ t → r ≡ true → t ≡ true
+passed e h = sym e ∙ h
 
-pub failed : {r t : Bool} → r ≡ t → not r ≡ true → t ≡ false
-failed {r} e h = sym e ∙ not-true r h
+pub failed : {r t : Bool} → r ≡ t → r ≡ false → t ≡ false
+failed e h = sym e ∙ h
 
 -- and of a value, or of the room beside the count
 pub told : {A : Type 0} {r t v : A} → r ≡ t → r ≡ v → t ≡ v
