@@ -5,7 +5,7 @@ use mathlib.Core.Bool.{Bool, true, false, cond, not, ◌&&◌, ◌||◌, false�
 use mathlib.Core.List.{List}
 use Prim.Native.Nat.{ℕ, zero, suc, ◌+◌, ◌-◌, ◌≤◌, ◌<◌, zero-le}
 use native.Mathlib.Omega.{arith}
-use lib.Dec.{eqb, T as Holds}
+use lib.Dec.{eqb}
 use lib.ListN.{length, drop}
 use borrow.Author.Tests.{eq-eqb, ne_eqb, lt-leb}
 use denote.Ref.{Bor}
@@ -80,58 +80,51 @@ kept : (r : Reader) (line : Bool) → (piece_by r line).reader.bytes ≡ r.bytes
 kept r true = refl
 kept r false = refl
 
--- a pass over the bytes s, in a walk of the whole file: what is left decides
+-- a pass over the bytes bs, in a walk of the whole file: what is left decides
 pub outcome : List ℕ → Pass → Bool
 outcome bs p = cond p.form.going (is_shaped p.form.left (words_of (drop p.reader.at bs))) p.form.fit
 
 abbrev pub to_come : List ℕ → Pass → ℕ
 to_come bs p = cond p.form.going (suc (length bs - p.reader.at)) 0
 
-pub record Along (s : Bor (List ℕ)) (p : Pass) : Type 0 where
-  pub bytes : p.reader.bytes ≡ s
-  pub within : p.reader.at ≤ length s.now
-  pub same : outcome s.now p ≡ is_shaped 0 (words_of s.now)
-
--- how a test came out
-is-on : (b : Bool) → Holds b → b ≡ true
-is-on true h = refl
-is-on false h = absurd h
-
-is-off : (b : Bool) → Holds (not b) → b ≡ false
-is-off true h = absurd h
-is-off false h = refl
+pub record Along (bs : List ℕ) (p : Pass) : Type 0 where
+  pub bytes : p.reader.bytes.now ≡ bs
+  pub within : p.reader.at ≤ length bs
+  pub same : outcome bs p ≡ is_shaped 0 (words_of bs)
 
 -- where a pass begins
-pub along-start : (s : Bor (List ℕ)) (r : Reader) → r.bytes ≡ s → r.at ≡ 0 → Along s (record { reader = r; form = record { left = 0; going = true; fit = true } })
+pub along-start : (bs : List ℕ) (r : Reader) → r.bytes.now ≡ bs → r.at ≡ 0 → Along bs (record { reader = r; form = record { left = 0; going = true; fit = true } })
 unfolding outcome
-along-start s r b z = record { bytes = b; within = rw z zero-le; same = rw z }
+along-start bs r b z = record { bytes = b; within = rw z zero-le; same = rw z }
 
-module _ (s : Bor (List ℕ)) (p : Pass) (a : Along s p) where
+module _ (bs : List ℕ) (p : Pass) (a : Along bs p) where
   -- where it goes on
-  module _ (on : Holds p.form.going) (p' : Pass) (e : p' ≡ passed_on p) where
-    went : Went s.now p.reader.at p.form.left p'.form p'.reader.at
+  module _ (on : p.form.going ≡ true) (p' : Pass) (e : p' ≡ passed_on p) where
+    went : Went bs p.reader.at p.form.left p'.form p'.reader.at
     went =
-        let w : p.reader.at ≤ length p.reader.bytes.now = subst (λ (x : Bor (List ℕ)). p.reader.at ≤ length x.now) (sym a.bytes) a.within in
-        subst (λ (x : Bor (List ℕ)). Went x.now p.reader.at p.form.left p'.form p'.reader.at) a.bytes
+        let w : p.reader.at ≤ length p.reader.bytes.now = subst (λ (x : List ℕ). p.reader.at ≤ length x) (sym a.bytes) a.within in
+        subst (λ (x : List ℕ). Went x p.reader.at p.form.left p'.form p'.reader.at) a.bytes
         (subst (λ (x : Pass). Went p.reader.bytes.now p.reader.at p.form.left x.form x.reader.at) (sym e) (pass-went p w))
 
-    pub along-on : Along s p'
+    pub along-on : Along bs p'
     unfolding outcome
     along-on =
         record {
-          bytes = ap (λ (x : Pass). x.reader.bytes) e ∙ (kept p.reader (not (eqb p.form.left 0)) ∙ a.bytes);
+          bytes =
+              ap (λ (x : Pass). x.reader.bytes.now) e
+              ∙ (ap (λ (b : Bor (List ℕ)). b.now) (kept p.reader (not (eqb p.form.left 0))) ∙ a.bytes);
           within = went.within;
-          same = went.same ∙ (rw (is-on p.form.going on) at a).same;
+          same = went.same ∙ (rw on at a).same;
         }
 
-    pub less-on : to_come s.now p' < to_come s.now p
+    pub less-on : to_come bs p' < to_come bs p
     less-on = go p'.form.going refl
       where
-        go : (b : Bool) → p'.form.going ≡ b → to_come s.now p' < to_come s.now p
-        go true z = rw (z, is-on p.form.going on) (omega (arith, went.within, went.further z))
-        go false z = rw (z, is-on p.form.going on) (omega arith)
+        go : (b : Bool) → p'.form.going ≡ b → to_come bs p' < to_come bs p
+        go true z = rw (z, on) (omega (arith, went.within, went.further z))
+        go false z = rw (z, on) (omega arith)
 
   -- where it ends
-  pub along-end : Holds (not p.form.going) → p.form.fit ≡ is_shaped 0 (words_of s.now)
+  pub along-end : p.form.going ≡ false → p.form.fit ≡ is_shaped 0 (words_of bs)
   unfolding outcome
-  along-end off = (rw (is-off p.form.going off) at a).same
+  along-end off = (rw off at a).same

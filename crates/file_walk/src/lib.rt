@@ -1,5 +1,6 @@
 // The form of a day file's bytes: its reader and the walk of its heads and lines (document 01, 'Day file').
 #![tactic(auto)]
+
 use rules::Key;
 
 pub mod reader;

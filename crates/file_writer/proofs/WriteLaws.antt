@@ -1,14 +1,14 @@
 -- Laws of what a host writes: figures that fit their bits are read back as they were written. Assumes nothing.
 use mathlib.Core.Path.{◌≡◌, ◌∙◌}
-use mathlib.Core.Bool.{Bool, true, false, not}
+use mathlib.Core.Bool.{Bool, true, false}
 use mathlib.Core.List.{List, [], ◌∷◌}
-use Prim.Native.Nat.{ℕ, suc, ◌+◌, ◌-◌, ◌*◌, ◌/◌, ◌%◌, ◌≤◌, ◌<◌}
+use Prim.Native.Nat.{ℕ, suc, ◌+◌, ◌*◌, ◌/◌, ◌%◌, ◌≤◌, ◌<◌}
 use native.Mathlib.Nat.{add-zero, div-div-eq-div-mul}
 use native.Mathlib.Omega.{arith}
 use lib.Dec.{leb, ltb}
 use lib.ListN.{length, get_or, set, length-set}
 use lib.Seq.{get_or-set_same, get_or-set_other}
-use borrow.Author.Tests.{leb-true, ltb-true, lt-ltb, not-true, not-false}
+use borrow.Author.Tests.{leb-true, ltb-true, lt-ltb}
 use Rattle.numbers.specs.Tests.{every}
 use Rattle.numbers.specs.Causes.{unless}
 use Rattle.numbers.proofs.TestLaws.{every_holds}
@@ -134,22 +134,22 @@ module _ (p d n : ℕ) where
   abbrev fits_head : Bool
   fits_head = every (head_tests p d n)
 
-  pub head-refused : not fits_head ≡ true → ◌≡◌ {A = HeadWords} (record { answer = 12; first = 0; second = 0 }) (head_words p d n)
+  pub head-refused : fits_head ≡ false → ◌≡◌ {A = HeadWords} (record { answer = 12; first = 0; second = 0 }) (head_words p d n)
   unfolding head_words head_fits
-  head-refused e = rw (not-true fits_head e)
+  head-refused e = rw e
 
-  pub head-written : not fits_head ≡ false → ◌≡◌ {A = HeadWords} (record { answer = 0; first = word 1 (p + n * parties); second = word 2 d }) (head_words p d n)
+  pub head-written : fits_head ≡ true → ◌≡◌ {A = HeadWords} (record { answer = 0; first = word 1 (p + n * parties); second = word 2 d }) (head_words p d n)
   unfolding head_words head_fits
-  head-written e = rw (not-false fits_head e)
+  head-written e = rw e
 
 module _ (t c a : ℕ) where
   abbrev fits_line : Bool
   fits_line = every (line_tests t c a)
 
-  pub line_refused : not fits_line ≡ true → ◌≡◌ {A = LineWords} (record { answer = 12; figures = 0; low = 0; high = 0 }) (line_words t c a)
+  pub line_refused : fits_line ≡ false → ◌≡◌ {A = LineWords} (record { answer = 12; figures = 0; low = 0; high = 0 }) (line_words t c a)
   unfolding line_words line_fits
-  line_refused e = rw (not-true fits_line e)
+  line_refused e = rw e
 
-  pub line-written : not fits_line ≡ false → ◌≡◌ {A = LineWords} (record { answer = 0; figures = word 3 (t + c * types); low = word 4 (a % low_amounts); high = word 5 (a / low_amounts) }) (line_words t c a)
+  pub line-written : fits_line ≡ true → ◌≡◌ {A = LineWords} (record { answer = 0; figures = word 3 (t + c * types); low = word 4 (a % low_amounts); high = word 5 (a / low_amounts) }) (line_words t c a)
   unfolding line_words line_fits
-  line-written e = rw (not-false fits_line e, add-zero (t + c * types))
+  line-written e = rw (e, add-zero (t + c * types))

@@ -1,5 +1,6 @@
 // The writer's side of a day file: a block's head and a line as words, and a word as bytes.
 #![tactic(auto)]
+
 ghost use Rattle.std.specs.Prelude.{◌≡◌, length};
 ghost use Rattle.file_writer.specs.Write.{head_words, line_words, put_cause, put_words};
 

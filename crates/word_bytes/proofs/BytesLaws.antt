@@ -1,13 +1,12 @@
 -- Laws of words and their bytes. Assumes nothing.
 use mathlib.Core.Path.{◌≡◌, refl, sym, ◌∙◌, ap, ap₂}
-use mathlib.Core.Bool.{Bool, true, false, cond}
 use mathlib.Core.List.{List, [], ◌∷◌, ◌++◌, append_assoc, append-nil}
-use Prim.Native.Nat.{ℕ, zero, suc, ◌+◌, ◌-◌, ◌*◌, ◌/◌, ◌%◌, ◌≤◌, ◌<◌, min}
+use Prim.Native.Nat.{ℕ, zero, suc, ◌+◌, ◌*◌, ◌/◌, ◌%◌, ◌≤◌, ◌<◌}
 use native.Mathlib.Nat.{div-add-mod', div-div-eq-div-mul}
-use native.Mathlib.Numerals.{add-one, add-two, add-three, add-four}
+use native.Mathlib.Numerals.{add-one}
 use native.Mathlib.Omega.{arith}
 use lib.ListN.{length, get_or, take, drop, set, take-append-drop}
-use lib.Seq.{take_all, take-length, drop-length, drop_at, take-suc, take-suc-set, length-take-le, drop-append-add, drop-drop, take_at, sets-eq}
+use lib.Seq.{take_all, take-length, drop-length, drop_at, take-suc, take-suc-set, length-take-le, drop-append-add, drop-drop, take_at}
 use Rattle.rules.specs.DayFile.{words_of}
 use Rattle.word_bytes.specs.Bytes.{bytes_of}
 use Rattle.word_bytes.specs.Coding.{word_at}

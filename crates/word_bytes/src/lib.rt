@@ -1,5 +1,6 @@
 // Internal: words out of bytes, little-endian, and back, for the C calls and the day file. A caller meets each `requires`.
 #![tactic(auto)]
+
 ghost use Rattle.std.specs.Prelude.{◌≡◌, ◌+◌, ◌*◌, ◌<◌, ◌≤◌, min, [], ◌∷◌, ◌++◌, length, take, drop};
 ghost use Rattle.rules.specs.Words.{values, count_of, book_words, used_with};
 ghost use Rattle.numbers.specs.Causes.{if_done};

@@ -1,8 +1,7 @@
 use mathlib.Core.Path.{sym, ◌∙◌}
-use Prim.Native.Nat.{◌-◌}
 use native.Mathlib.Omega.{arith}
 use borrow.Author.Rules.{rules}
-use lib.ListN.{length, length-set}
+use lib.ListN.{length-set}
 use Rattle.word_bytes.proofs.BytesLaws.{length-words, word-at, fill_step}
 use Rattle.word_bytes.proofs.read_words.Goals as goal
 

@@ -6,4 +6,4 @@ use Rattle.word_bytes.proofs.store.Goals as goal
 pub returns : goal.returns
 returns c =
     c.put_word.ensures
-    ∙ stored-parts c.args.words.now c.args.bytes.now _ _ c.end_of_lem.result c.end_of_lem.ensures.0 c.end_of_lem.ensures.1 c.requires.words_in_bounds c.encode.ensures c.encode-2.ensures
+    ∙ stored-parts c.args.words.now c.args.bytes.now _ _ c.end_of-end.result c.end_of-end.ensures.0 c.end_of-end.ensures.1 c.requires.words_in_bounds c.encode.ensures c.encode-2.ensures
