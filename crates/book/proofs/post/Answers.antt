@@ -1,38 +1,31 @@
 -- `book::post` meets its contract. Assumes nothing.
-use mathlib.Core.List.{List}
-use Prim.Native.Nat.{ℕ}
-use Rattle.rules.specs.Entry.{Key, key_in}
+use Rattle.rules.specs.Entry.{key_in}
 use Rattle.book.proofs.Calls.{post-refuses, post-long, post-room, post-legal, post-answers, post-leaves}
 use Rattle.book.proofs.post.Goals as goal
-use Rattle.book.proofs.post.Goals.{After-post_cause-cause}
 
 
--- with the cause found: the words, key and amount that came in
-module _ (f : After-post_cause-cause) where
-  abbrev ws : List ℕ
-  ws = f.args.book.now
+pub returns-then-cause-ne0-clause-answer : goal.returns-then-cause-ne0-clause-answer
+returns-then-cause-ne0-clause-answer c = (post-refuses c.args.book.now (key_in c.args.key) c.args.amount c.post_cause-cause.ensures c.if-cause-ne0.true).0
 
-  abbrev posting : Key
-  posting = key_in f.args.key
-
-  abbrev amount : ℕ
-  amount = f.args.amount
-
-pub returns-then-cause-ne0 : goal.returns-then-cause-ne0
-returns-then-cause-ne0 c = post-refuses (ws (goal.at.returns-then-cause-ne0 c).After-post_cause-cause) (posting (goal.at.returns-then-cause-ne0 c).After-post_cause-cause) (amount (goal.at.returns-then-cause-ne0 c).After-post_cause-cause) c.post_cause-cause.ensures c.if-cause-ne0.true
+pub returns-then-cause-ne0-clause-words : goal.returns-then-cause-ne0-clause-words
+returns-then-cause-ne0-clause-words c = (post-refuses c.args.book.now (key_in c.args.key) c.args.amount c.post_cause-cause.ensures c.if-cause-ne0.true).1
 
 pub count_of-number-requires : goal.count_of-number-requires
 count_of-number-requires c =
-    post-long (ws (goal.at.count_of-number-requires c).After-slice_known-1) (posting (goal.at.count_of-number-requires c).After-slice_known-1) (amount (goal.at.count_of-number-requires c).After-slice_known-1) c.post_cause-cause.ensures c.if-cause-ne0.false
+    post-long c.args.book.now (key_in c.args.key) c.args.amount c.post_cause-cause.ensures c.if-cause-ne0.false
 
-pub append-requires : goal.append-requires
-append-requires c =
-    (post-room (ws (goal.at.append-requires c).After-slice_known-1) (posting (goal.at.append-requires c).After-slice_known-1) (amount (goal.at.append-requires c).After-slice_known-1) c.post_cause-cause.ensures c.if-cause-ne0.false, post-legal (ws (goal.at.append-requires c).After-slice_known-1) (posting (goal.at.append-requires c).After-slice_known-1) (amount (goal.at.append-requires c).After-slice_known-1) c.post_cause-cause.ensures c.if-cause-ne0.false)
+pub append-requires-clause-book_bound : goal.append-requires-clause-book_bound
+append-requires-clause-book_bound c =
+    post-room c.args.book.now (key_in c.args.key) c.args.amount c.post_cause-cause.ensures c.if-cause-ne0.false
+
+pub append-requires-clause-amount_value : goal.append-requires-clause-amount_value
+append-requires-clause-amount_value c =
+    post-legal c.args.book.now (key_in c.args.key) c.args.amount c.post_cause-cause.ensures c.if-cause-ne0.false
 
 pub returns-clause-answer : goal.returns-clause-answer
 returns-clause-answer c =
-    post-answers (ws (goal.at.returns c).After-slice_known-1) (posting (goal.at.returns c).After-slice_known-1) (amount (goal.at.returns c).After-slice_known-1) c.post_cause-cause.ensures c.if-cause-ne0.false c.count_of-number.ensures
+    post-answers c.args.book.now (key_in c.args.key) c.args.amount c.post_cause-cause.ensures c.if-cause-ne0.false c.count_of-number.ensures
 
 pub returns-clause-words : goal.returns-clause-words
 returns-clause-words c =
-    post-leaves (ws (goal.at.returns c).After-slice_known-1) (posting (goal.at.returns c).After-slice_known-1) (amount (goal.at.returns c).After-slice_known-1) c.post_cause-cause.ensures c.if-cause-ne0.false c.append.ensures
+    post-leaves c.args.book.now (key_in c.args.key) c.args.amount c.post_cause-cause.ensures c.if-cause-ne0.false c.append.ensures

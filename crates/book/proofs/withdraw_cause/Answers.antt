@@ -20,12 +20,12 @@ returns-then-count_of-number c =
     let a = c.args in
     rw (withdraw-cause, passed c.is_book.ensures c.if-not-is_book.false, le-ltb a.number (count_of a.book.now) (rw c.count_of.ensures at c.if-count_of-number.true))
 
-pub kept_at-requires : goal.kept_at-requires
-kept_at-requires c =
+pub kept_at-requires-clause-at_in_bounds : goal.kept_at-requires-clause-at_in_bounds
+kept_at-requires-clause-at_in_bounds c =
     let a = c.args in
     let o = passed c.is_book.ensures c.if-not-is_book.false in
     let h : a.number < count_of a.book.now = rw c.count_of.ensures at c.if-count_of-number.false in
-    (o, rw c.place_of.ensures (book-entry a.book.now o a.number h).within)
+    rw c.place_of.ensures (book-entry a.book.now o a.number h).within
 
 pub returns : goal.returns
 unfolding entry_at kept
