@@ -1,5 +1,6 @@
 // Internal: the closed days of a book in a table, for files of many lines. A caller meets each `requires`.
 #![tactic(auto)]
+
 ghost use Rattle.std.specs.Prelude.{◌≡◌, true, false, ◌||◌, ℕ, ◌+◌, ◌<◌, ◌≤◌, length, get_or, drop};
 ghost use Rattle.numbers.specs.Tests.{any};
 ghost use Rattle.rules.specs.Entry.{is_mark, day_places};

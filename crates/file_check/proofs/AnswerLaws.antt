@@ -2,7 +2,7 @@
 use mathlib.Core.Path.{◌≡◌, refl, sym, ◌∙◌, ap, ap₂}
 use mathlib.Core.Bool.{Bool, true}
 use mathlib.Core.List.{List, [], ◌∷◌, map}
-use Prim.Native.Nat.{ℕ, zero, suc, ◌+◌, ◌-◌, ◌%◌, ◌≤◌, ◌<◌}
+use Prim.Native.Nat.{ℕ, zero, suc, ◌+◌, ◌%◌, ◌≤◌, ◌<◌}
 use native.Mathlib.Nat.{suc-ne-zero}
 use native.Mathlib.Omega.{arith}
 use lib.Dec.{eqb, leb}
@@ -15,7 +15,7 @@ use Rattle.rules.specs.Entry.{Record, fault}
 use Rattle.rules.specs.Words.{is_book, entries, count_of, room_in}
 use Rattle.rules.specs.Book.{shut_to}
 use Rattle.rules.specs.DayFile.{Item, line, empty_block, item_cause, items, lines_of, is_file, is_shaped, words_of}
-use Rattle.rules.specs.Calls.{file, figures_on, cause_of, figures_at, file_answer}
+use Rattle.rules.specs.Calls.{file, figures_on, cause_of, file_answer}
 use Rattle.rules.specs.declared.FileRead.{FileRead}
 use Rattle.rules.proofs.WordLaws.{no-fault}
 use Rattle.rules.proofs.CallLaws.{file-cause, refused-figures, done-figures}

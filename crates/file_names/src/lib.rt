@@ -1,5 +1,6 @@
 // The parties and days that a file names: blocks, and counterparties above 0.
 #![tactic(auto)]
+
 ghost use Rattle.std.specs.Prelude.{◌≡◌, true, false, ◌||◌, ℕ, ◌<◌, length, get_or, set};
 ghost use Rattle.numbers.specs.Tests.{any};
 ghost use Rattle.rules.specs.DayFile.{item_names, file_names};
