@@ -1,5 +1,6 @@
 // The month step: a month's average price and a group's imbalance volume (01, 'Month step').
 #![tactic(auto)]
+
 pub mod ranges;
 mod sizes;
 pub mod sums;

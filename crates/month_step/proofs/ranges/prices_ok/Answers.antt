@@ -1,4 +1,3 @@
-use Prim.Native.Nat.{◌-◌}
 use borrow.Author.Rules.{rules}
 use Rattle.month_step.specs.Ranges.{price_ok}
 use Rattle.month_step.proofs.ScanLaws.{all_more, all_end}

@@ -1,6 +1,6 @@
 use mathlib.Core.Path.{◌≡◌, ◌∙◌, ap}
 use mathlib.Core.List.{List}
-use Prim.Native.Nat.{◌-◌}
+use native.Mathlib.Omega.{arith}
 use lib.IntN.{ℤ, pos}
 use lib.ListN.{get_or}
 use borrow.Author.Rules.{rules}
@@ -14,7 +14,7 @@ loop-i-preserved c =
     let at = c.loop-i in
     let volumes : List ℤ = c.args.volumes.now in
     let found : c.volume_ok-ok.result ≡ volume_ok (get_or volumes at.i (pos 0)) =
-    c.volume_ok-ok.ensures ∙ ap (λ z. volume_ok z) (exact32 (get_or volumes at.i (pos 0)) c.volume_ok-arg-1.given) in
+    c.volume_ok-ok.ensures ∙ ap (λ z. volume_ok z) (exact32 (get_or volumes at.i (pos 0)) (omega arith)) in
     (search rules, rw found (all_more volume_ok volumes at.ok at.i (pos 0) c.loop-i-test.true at.invariant.1))
 
 pub returns : goal.returns
