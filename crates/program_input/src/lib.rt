@@ -1,6 +1,9 @@
-// Internal: a descriptor read to its end, or to the buffer's. No contract can say what is read.
+// Internal: a reader read to its end, or to the buffer's. No contract can say what is read.
 #![tactic(auto)]
+
 ghost use Rattle.std.specs.Prelude.{◌+◌, ◌≤◌, length};
+
+use std::io::Read;
 
 // How many bytes came, or that a read failed.
 #[derive(Drop)]
@@ -9,32 +12,29 @@ pub struct Input {
     pub count: usize,
 }
 
-fn read_more(fd: i32, buffer: &mut [u8], done: usize) -> Input
+fn read_more<R: Read>(reader: &mut R, buffer: &mut [u8], done: usize) -> Input
     requires { done ≤ length buffer.old }
     ensures { done + result.count ≤ length buffer.new }
 {
-    let rest = &mut buffer[done..];
-    let got = libc::read(fd, rest);
-    if got < 0 {
-        return Input {
+    match reader.read(&mut buffer[done..]) {
+        Ok(count) => Input {
+            failed: false,
+            count,
+        },
+        Err(_) => Input {
             failed: true,
             count: 0,
-        };
-    }
-    let count = io::count(got, rest);
-    Input {
-        failed: false,
-        count,
+        },
     }
 }
 
 // Reads to the end of the input, or of the buffer. A failed read is no end: half a file is not read.
-pub fn read_whole(fd: i32, buffer: &mut [u8]) -> Input
+pub fn read_whole<R: Read>(reader: &mut R, buffer: &mut [u8]) -> Input
     ensures { result.count ≤ length buffer.new }
 {
     let mut done = 0;
     while done < buffer.len() {
-        let more = read_more(fd, buffer, done);
+        let more = read_more(reader, buffer, done);
         if more.failed {
             return more;
         }
