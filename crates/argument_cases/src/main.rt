@@ -1,9 +1,11 @@
 // The month that arguments name, against the list on standard input: how many arguments there are, the month that must come
 // back, and after a space the bytes of the first. '#' at a line's start makes it a comment.
 #![tactic(auto)]
+
 ghost use Rattle.std.specs.Prelude.{◌≤◌, length};
 
 use caselist::score::{Score, told};
+use std::io::Stdout;
 
 // Where a byte stands first, from a place on; or the end.
 fn place_of(text: &[u8], byte: u8, from: usize) -> usize
@@ -69,8 +71,8 @@ fn judged(line: &[u8], number: u64, s: Score) -> Score {
     s
 }
 
-fn run(text: &[u8]) -> Score {
-    let mut s = caselist::score::none();
+fn run(text: &[u8], out: Stdout) -> Score {
+    let mut s = caselist::score::none(out);
     let mut number: u64 = 1;
     let mut at = 0;
     while at < text.len() {
@@ -85,9 +87,9 @@ fn run(text: &[u8]) -> Score {
     s
 }
 
-fn main() {
+fn main(rt: HostRuntime) {
     let mut text = [0u8; 16384];
-    let size = io::read_full(libc::STDIN_FILENO, &mut text);
-    let s = run(&text[..size]);
-    caselist::score::print_counts(s.checks, s.wrong);
+    let size = caselist::rows::filled(&mut rt.stdin(), &mut text);
+    let s = run(&text[..size], rt.stdout());
+    caselist::score::print_counts(s.out, s.checks, s.wrong);
 }

@@ -1,6 +1,7 @@
 // Runs the list of calls on standard input against the book. Each call's answer, and every word of the lent slice after it,
 // is compared with what the list says; the list is written from document 01 by hand.
 #![tactic(auto)]
+
 mod reads;
 mod writes;
 
@@ -8,6 +9,7 @@ use caselist::rows::{Row, low};
 use caselist::score::{Score, told};
 use caselist::words::{put, same, word};
 use rules::Key;
+use std::io::Stdout;
 
 fn posted(book: &mut [u32], shadow: &mut [u32], r: Row) -> bool {
     let got = caselist::steps::post(book, r);
@@ -152,8 +154,8 @@ fn line(book: &mut [u32], shadow: &mut [u32], r: Row, s: Score) -> Score {
     lend(book, shadow, r, s)
 }
 
-fn run(table: &[u64], rows: usize, book: &mut [u32], shadow: &mut [u32]) {
-    let mut s = caselist::score::none();
+fn run(table: &[u64], rows: usize, book: &mut [u32], shadow: &mut [u32], out: Stdout) {
+    let mut s = caselist::score::none(out);
     let mut i = 0;
     while i < rows {
         s = line(book, shadow, caselist::rows::row_at(table, i), s);
@@ -161,10 +163,10 @@ fn run(table: &[u64], rows: usize, book: &mut [u32], shadow: &mut [u32]) {
     }
 }
 
-fn main() {
+fn main(rt: HostRuntime) {
     let mut table = [0u64; 16000];
-    let rows = caselist::rows::read(&mut table);
+    let rows = caselist::rows::read(&mut rt.stdin(), &mut table);
     let mut book = [0u32; 15403];
     let mut shadow = [0u32; 15403];
-    run(&table, rows, &mut book, &mut shadow);
+    run(&table, rows, &mut book, &mut shadow, rt.stdout());
 }

@@ -1,5 +1,8 @@
 // A list as rows, one to a line: a letter for what to do, and up to fourteen figures. A figure is a letter, which counts as its
 // byte, or a number, decimal, below zero after '-', or hexadecimal after 'x'. '#' starts a comment, and a line with nothing else is no row.
+ghost use Rattle.std.specs.Prelude.{◌≤◌, length};
+
+use std::io::Read;
 
 // In a table a row is sixteen numbers: its line in the text, counted from 1, its letter and its figures.
 const WIDTH: usize = 16;
@@ -184,10 +187,25 @@ fn scanned(text: &[u8], table: &mut [u64]) -> usize {
     s.row
 }
 
-// The list on standard input into a table; how many rows it has.
-pub fn read(table: &mut [u64]) -> usize {
+// Reads until the text is full, the input ends or a read fails; how many bytes came.
+pub fn filled<R: Read>(input: &mut R, text: &mut [u8]) -> usize
+    ensures { result ≤ length text.new }
+{
+    let mut done = 0;
+    while done < text.len() {
+        let count = input.read(&mut text[done..]).unwrap_or(0);
+        if count == 0 {
+            return done;
+        }
+        done += count;
+    }
+    done
+}
+
+// The list on an input into a table; how many rows it has.
+pub fn read<R: Read>(input: &mut R, table: &mut [u64]) -> usize {
     let mut text = [0u8; 65536];
-    let n = io::read_full(libc::STDIN_FILENO, &mut text);
+    let n = filled(input, &mut text);
     scanned(&text[..n], table)
 }
 

@@ -1,26 +1,26 @@
-// How many words are lent, how many answers of a group were compared, and how many of them differ from the list.
+// Where it is printed, how many words are lent, how many answers of a group were compared, and how many of them differ from the list.
 use crate::rows::{Row, low};
-use libc::STDOUT_FILENO;
+use std::io::Stdout;
 
 #[derive(Clone, Copy)]
 pub struct Score {
+    pub out: Stdout,
     pub lent: usize,
     pub checks: u64,
     pub wrong: u64,
 }
 
-pub fn none() -> Score {
+pub fn none(out: Stdout) -> Score {
     Score {
+        out,
         lent: 0,
         checks: 0,
         wrong: 0,
     }
 }
 
-fn print_wrong(line: u64) {
-    io::write_all(STDOUT_FILENO, b"line ");
-    io::print_decimal(STDOUT_FILENO, line);
-    io::write_all(STDOUT_FILENO, b" is wrong\n");
+fn print_wrong(out: Stdout, line: u64) {
+    let _ = println!(out; "line {line} is wrong");
 }
 
 // One check more, of this line; a line that is wrong is named.
@@ -29,22 +29,17 @@ pub fn told(s: Score, line: u64, ok: bool) -> Score {
     t.checks = std::num::wrapping_add_u64(s.checks, 1);
     if !ok {
         t.wrong = std::num::wrapping_add_u64(s.wrong, 1);
-        print_wrong(line);
+        print_wrong(s.out, line);
     }
     t
 }
 
-pub fn print_counts(checks: u64, wrong: u64) {
-    io::print_decimal(STDOUT_FILENO, checks);
-    io::write_all(STDOUT_FILENO, b" checks, ");
-    io::print_decimal(STDOUT_FILENO, wrong);
-    io::write_all(STDOUT_FILENO, b" wrong\n");
+pub fn print_counts(out: Stdout, checks: u64, wrong: u64) {
+    let _ = println!(out; "{checks} checks, {wrong} wrong");
 }
 
-fn print_group(group: u64) {
-    io::write_all(STDOUT_FILENO, b"group ");
-    io::print_decimal(STDOUT_FILENO, group);
-    io::write_all(STDOUT_FILENO, b": ");
+fn print_group(out: Stdout, group: u64) {
+    let _ = print!(out; "group {group}: ");
 }
 
 // Whether a row asks nothing of a book: the end of a group, or how many words are lent.
@@ -59,8 +54,8 @@ pub fn set(s: Score, r: Row) -> Score {
         t.lent = low(r.a) as usize;
         return t;
     }
-    print_group(r.a);
-    print_counts(s.checks, s.wrong);
+    print_group(s.out, r.a);
+    print_counts(s.out, s.checks, s.wrong);
     t.checks = 0;
     t.wrong = 0;
     t

@@ -1,5 +1,6 @@
 // Collateral against the list on standard input, whose figures are worked out by hand from document 01, 'Collateral'.
 #![tactic(auto)]
+
 mod figures;
 
 use case_figures::Case;
@@ -7,6 +8,7 @@ use caselist::rows::Row;
 use caselist::score::{Score, told};
 use figures::with;
 use rules::Collateral;
+use std::io::Stdout;
 
 // Each item and the total.
 fn has_items(got: Collateral, r: Row) -> bool {
@@ -85,9 +87,9 @@ fn line(book: &mut [u32], r: Row, case: Case, s: Score) -> Score {
     told(s, r.line, lend(book, r, case, s.lent))
 }
 
-fn run(table: &[u64], rows: usize, book: &mut [u32]) {
+fn run(table: &[u64], rows: usize, book: &mut [u32], out: Stdout) {
     let mut case = figures::plain();
-    let mut s = caselist::score::none();
+    let mut s = caselist::score::none(out);
     let mut i = 0;
     while i < rows {
         let r = caselist::rows::row_at(table, i);
@@ -97,9 +99,9 @@ fn run(table: &[u64], rows: usize, book: &mut [u32]) {
     }
 }
 
-fn main() {
+fn main(rt: HostRuntime) {
     let mut table = [0u64; 16000];
-    let rows = caselist::rows::read(&mut table);
+    let rows = caselist::rows::read(&mut rt.stdin(), &mut table);
     let mut book = [0u32; 15363];
-    run(&table, rows, &mut book);
+    run(&table, rows, &mut book, rt.stdout());
 }

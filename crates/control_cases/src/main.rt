@@ -1,12 +1,14 @@
 // Controls of days against the list on standard input, whose figures are worked out by hand from document 01. After each call
 // every lent word is compared with the words that the list says.
 #![tactic(auto)]
+
 mod writes;
 
 use caselist::rows::{Row, low};
 use caselist::score::{Score, told};
 use caselist::words::same;
 use rules::Controlled;
+use std::io::Stdout;
 use writes::append;
 
 fn open(book: &mut [u32], shadow: &mut [u32], r: Row) -> bool {
@@ -100,8 +102,8 @@ fn line(book: &mut [u32], shadow: &mut [u32], r: Row, s: Score) -> Score {
     lend(book, shadow, r, s)
 }
 
-fn run(table: &[u64], rows: usize, book: &mut [u32], shadow: &mut [u32]) {
-    let mut s = caselist::score::none();
+fn run(table: &[u64], rows: usize, book: &mut [u32], shadow: &mut [u32], out: Stdout) {
+    let mut s = caselist::score::none(out);
     let mut i = 0;
     while i < rows {
         s = line(book, shadow, caselist::rows::row_at(table, i), s);
@@ -109,10 +111,10 @@ fn run(table: &[u64], rows: usize, book: &mut [u32], shadow: &mut [u32]) {
     }
 }
 
-fn main() {
+fn main(rt: HostRuntime) {
     let mut table = [0u64; 16000];
-    let rows = caselist::rows::read(&mut table);
+    let rows = caselist::rows::read(&mut rt.stdin(), &mut table);
     let mut book = [0u32; 15363];
     let mut shadow = [0u32; 15363];
-    run(&table, rows, &mut book, &mut shadow);
+    run(&table, rows, &mut book, &mut shadow, rt.stdout());
 }

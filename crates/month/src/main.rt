@@ -1,41 +1,53 @@
 // Reads a day file from standard input into a default book, and prints the report of the month that its only argument
 // names (document 02, T-01). A read or a write that fails is said on standard error.
 #![tactic(auto)]
-use libc::{STDERR_FILENO, STDIN_FILENO, STDOUT_FILENO};
+
+use std::env::{Env, FillError};
 
 // The longest argument that Linux passes has one byte less; one that did not fit would count as empty.
 const MOST_ARGUMENT: usize = 131072;
 
 // How many arguments there are without the program's name.
-fn arguments() -> usize {
-    let all = os::arg_count();
-    if all == 0 { 0 } else { all - 1 }
+fn arguments(rt: &impl Env) -> usize {
+    let mut found = 0;
+    for number in 1..usize::MAX {
+        if let Err(FillError::NotPresent) = rt.arg(number, &mut []) {
+            break;
+        }
+        found = number;
+    }
+    found
 }
 
-fn month() -> u32 {
+fn month(rt: &impl Env) -> u32 {
     let mut argument = [0u8; MOST_ARGUMENT];
-    let size = os::arg(1, &mut argument);
-    month_argument::month_named(arguments(), &argument[..size])
+    let size = rt.arg(1, &mut argument).unwrap_or(0);
+    month_argument::month_named(arguments(rt), &argument[..size])
 }
 
-fn say_read(failed: bool) {
+fn say_read(rt: &impl Eprint, failed: bool) {
     if failed {
-        io::write_all(STDERR_FILENO, b"month: read failed\n");
+        let _ = eprintln!(rt; "month: read failed");
     }
 }
 
-fn print(text: &[u8]) {
-    if !io::write_all(STDOUT_FILENO, text) {
-        io::write_all(STDERR_FILENO, b"month: write failed\n");
+fn print(rt: &(impl Print + Eprint), text: &[u8]) {
+    if rt.write_all(text).is_err() {
+        let _ = eprintln!(rt; "month: write failed");
     }
 }
 
-fn main() {
+fn main(rt: HostRuntime) {
     // One byte more than a file may have, so that a longer one is seen.
     let mut buffer = [0u8; 65537];
     let mut out = [0u8; month_print::MOST_TEXT];
-    let output = month_print::input::printed_from(STDIN_FILENO, &mut buffer, month(), &mut out);
-    say_read(output.failed);
+    let output = month_print::input::printed_from(
+        &mut rt.stdin(),
+        &mut buffer,
+        month(&rt),
+        &mut out,
+    );
+    say_read(&rt, output.failed);
     let count = output.count;
-    print(&out[..count]);
+    print(&rt, &out[..count]);
 }

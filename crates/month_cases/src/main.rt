@@ -1,11 +1,13 @@
 // The month step, the sales ceiling, first days of months and |x| against the list on standard input, whose figures are worked
 // out by hand from documents 01 and 02.
 #![tactic(auto)]
+
 mod tables;
 
 use caselist::rows::{Row, low, signed};
 use caselist::score::{Score, told};
 use rules::MonthAnswer;
+use std::io::Stdout;
 use tables::Lengths;
 
 fn has_figures(got: MonthAnswer, r: Row) -> bool {
@@ -132,9 +134,16 @@ fn line(prices: &[u32], imbalance: &[i32], dm: &[i32], r: Row, l: Lengths, s: Sc
     told(s, r.line, asked(prices, imbalance, dm, r, l))
 }
 
-fn run(table: &[u64], rows: usize, prices: &mut [u32], imbalance: &mut [i32], dm: &mut [i32]) {
+fn run(
+    table: &[u64],
+    rows: usize,
+    prices: &mut [u32],
+    imbalance: &mut [i32],
+    dm: &mut [i32],
+    out: Stdout,
+) {
     let mut l = tables::none();
-    let mut s = caselist::score::none();
+    let mut s = caselist::score::none(out);
     let mut i = 0;
     while i < rows {
         let r = caselist::rows::row_at(table, i);
@@ -144,11 +153,18 @@ fn run(table: &[u64], rows: usize, prices: &mut [u32], imbalance: &mut [i32], dm
     }
 }
 
-fn main() {
+fn main(rt: HostRuntime) {
     let mut table = [0u64; 16000];
-    let rows = caselist::rows::read(&mut table);
+    let rows = caselist::rows::read(&mut rt.stdin(), &mut table);
     let mut prices = [0u32; 750];
     let mut imbalance = [0i32; 47680];
     let mut dm = [0i32; 750];
-    run(&table, rows, &mut prices, &mut imbalance, &mut dm);
+    run(
+        &table,
+        rows,
+        &mut prices,
+        &mut imbalance,
+        &mut dm,
+        rt.stdout(),
+    );
 }

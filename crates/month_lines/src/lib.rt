@@ -1,7 +1,7 @@
 // What the program `month_table` prints: the entries of the table of months, from the Gregorian rule (02, T-08).
 #![tactic(auto)]
-ghost use Rattle.io.specs.Counts.{IsPrefixLen};
-ghost use Rattle.text.specs.Text.{Wrote, Whole};
+
+ghost use Rattle.text.specs.Text.{IsPrefixLen, Wrote, Whole};
 ghost use Rattle.month_lines.specs.Lines.{table_text};
 
 use calendar::rule::month_start;

@@ -1,14 +1,14 @@
 // A file read to its end and reported on. No contract can say what is read: the work is `month_on`, on slices.
 ghost use Rattle.std.specs.Prelude.{◌≤◌, length, take};
-ghost use Rattle.io.specs.Counts.{IsPrefixLen};
-ghost use Rattle.text.specs.Text.{Whole};
+ghost use Rattle.text.specs.Text.{IsPrefixLen, Whole};
 ghost use Rattle.month_print.specs.MonthText.{printed};
 
 use program_input::Output;
+use std::io::Read;
 
-// The whole report on what a descriptor holds; a read that fails is refused by 2.
-pub fn printed_from(
-    fd: i32,
+// The whole report on what a reader holds; a read that fails is refused by 2.
+pub fn printed_from<R: Read>(
+    reader: &mut R,
     buffer: &mut [u8],
     month: u32,
     out: &mut [u8; crate::MOST_TEXT],
@@ -17,7 +17,7 @@ pub fn printed_from(
     ensures whole { Whole out.old (printed result.failed (take result.read buffer.new) month) result.count out.new }
     ensures prefix_len { IsPrefixLen result.count out.new }
 {
-    let found = program_input::read_whole(fd, buffer);
+    let found = program_input::read_whole(reader, buffer);
     if found.failed {
         let count = text::refused(rules::causes::BAD_FILE, out);
         return Output {

@@ -1,5 +1,6 @@
 // What the program `month` prints, as a function on slices (02, T-01).
 #![tactic(auto)]
+
 ghost use Rattle.std.specs.Prelude.{◌≤◌, length};
 ghost use Rattle.rules.specs.Book.{open_default_words};
 ghost use Rattle.text.specs.Text.{Wrote, Whole};

@@ -1,8 +1,10 @@
 // Month reports against the list on standard input, whose figures are worked out by hand from document 02, T-01.
 #![tactic(auto)]
+
 use caselist::rows::{Row, low};
 use caselist::score::{Score, told};
 use rules::{LINE_SUMS, MonthReport, REPORT_FIGURES};
+use std::io::Stdout;
 
 // A figure of the lines; 0 past them.
 fn figure(got: MonthReport, at: usize) -> u64 {
@@ -98,8 +100,8 @@ fn line(book: &mut [u32], r: Row, s: Score) -> Score {
     told(s, r.line, asked(book, r))
 }
 
-fn run(table: &[u64], rows: usize, book: &mut [u32]) {
-    let mut s = caselist::score::none();
+fn run(table: &[u64], rows: usize, book: &mut [u32], out: Stdout) {
+    let mut s = caselist::score::none(out);
     let mut i = 0;
     while i < rows {
         s = line(book, caselist::rows::row_at(table, i), s);
@@ -107,9 +109,9 @@ fn run(table: &[u64], rows: usize, book: &mut [u32]) {
     }
 }
 
-fn main() {
+fn main(rt: HostRuntime) {
     let mut table = [0u64; 16000];
-    let rows = caselist::rows::read(&mut table);
+    let rows = caselist::rows::read(&mut rt.stdin(), &mut table);
     let mut book = [0u32; 15363];
-    run(&table, rows, &mut book);
+    run(&table, rows, &mut book, rt.stdout());
 }

@@ -1,5 +1,6 @@
 // What the program `balance` prints, as a function on slices (01, 'Day file').
 #![tactic(auto)]
+
 ghost use Rattle.std.specs.Prelude.{◌≡◌, true, false, cond, [], ◌++◌, ℕ, ◌+◌, ◌≤◌, ◌<◌, length, get_or};
 ghost use Rattle.rules.specs.Entry.{last_party, day_places, party_places};
 ghost use Rattle.rules.specs.Words.{is_book};

@@ -1,5 +1,5 @@
 -- Numbers as text, and text laid over lent bytes.
-use Rattle.std.specs.Prelude.{◌≡◌, cond, List, [], ◌∷◌, ◌++◌, ℕ, zero, suc, ◌+◌, ◌/◌, ◌%◌, min, ltb, ℤ, pos, negsuc, length, set, take, drop}
+use Rattle.std.specs.Prelude.{◌≡◌, cond, List, [], ◌∷◌, ◌++◌, ℕ, zero, suc, ◌+◌, ◌≤◌, ◌/◌, ◌%◌, min, ltb, ℤ, pos, negsuc, length, set, take, drop}
 
 -- the decimal digits of a number, at most so many
 unfoldable pub digits : ℕ → ℕ → List ℕ
@@ -33,6 +33,10 @@ over out at (b ∷ bs) = over (set out at b) (at + 1) bs
 pub record Wrote (out : List ℕ) (at : ℕ) (text : List ℕ) (next : ℕ) (left : List ℕ) : Type 0 where
   pub place : next ≡ min (at + length text) (length out)
   pub bytes : left ≡ over out at text
+
+-- a slice's first n bytes are within it, and there are n of them; the second follows from the first, and spares callers a proof
+abbrev pub IsPrefixLen : ℕ → List ℕ → Type 0
+IsPrefixLen n xs = (n ≤ length xs) × (n ≡ length (take n xs))
 
 -- a whole text written at the start of a slice; every byte past it is as it was
 pub record Whole (out text : List ℕ) (next : ℕ) (left : List ℕ) : Type 0 where
