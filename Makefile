@@ -5,19 +5,18 @@ VERSION = 2.2.0
 # random comparisons a call in `make test`
 ROUNDS ?= 20000
 
-SOURCES := $(shell find crates -name '*.rt' -o -name '*.antt') crates.txt
+SOURCES := $(shell find crates -name out -prune -o \( -name '*.rt' -o -name '*.antt' \) -print) crates.txt
 
 all: build/libfanzsoreb.a
 
-# An archive exports the functions of its own crate alone: the library has a member for each crate `host_*` of crates.txt.
-# `rt staticlib` proves every crate that it rests on, one after the other; `rt check` does so two at a time.
-HOSTS := $(shell sed -n 's/^\(host[a-z_]*\):.*/\1/p' crates.txt)
+# A static library exports the functions of its own crate alone: the library has a member for each crate `host` and `host_words`.
+# `rt lib` proves such a crate and all that it rests on.
+HOSTS := host host_words
 
 build/libfanzsoreb.a: $(SOURCES)
 	mkdir -p build
-	rt check $$(sed -n 's/^host[a-z_]*: *//p' crates.txt)
-	for crate in $(HOSTS); do rt staticlib $$crate || exit; done
-	cd build && for crate in $(HOSTS); do ar x ../target/staticlib/lib$$crate.a $$crate.o || exit; done
+	for crate in $(HOSTS); do (cd crates/$$crate && rt lib) || exit; done
+	cd build && for crate in $(HOSTS); do ar x ../crates/$$crate/out/lib$$crate.a $$crate.o || exit; done
 	cd build && rm -f libfanzsoreb.a && ar rcs libfanzsoreb.a $(HOSTS:=.o) && rm $(HOSTS:=.o)
 
 define PKGCONFIG
