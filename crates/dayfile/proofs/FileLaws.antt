@@ -5,17 +5,12 @@ use mathlib.Core.List.{List}
 use Prim.Native.Nat.{ℕ, suc, ◌+◌, ◌*◌, ◌≤◌}
 use native.Mathlib.Nat.{suc-ne-zero}
 use native.Mathlib.Omega.{arith}
-use lib.Dec.{leb}
-use lib.ListN.{length, set, length-append}
-use borrow.Author.Tests.{leb-true}
-use Rattle.numbers.specs.Causes.{unless, first_of}
+use lib.ListN.{length, set}
 use Rattle.numbers.specs.Tests.{all}
-use Rattle.numbers.proofs.TestLaws.{all_append}
-use Rattle.numbers.proofs.CauseLaws.{clear-all, unless-zero, done-else}
 use Rattle.rules.specs.Entry.{legal}
-use Rattle.rules.specs.Words.{word, is_book, entries, count_of, room_in}
+use Rattle.rules.specs.Words.{word, is_book, entries, count_of}
 use Rattle.rules.specs.DayFile.{items, lines_of, is_file}
-use Rattle.rules.specs.Calls.{file, figures_on, changed, cause_of, figures_at, words_after, file_answer}
+use Rattle.rules.specs.Calls.{file, figures_on, changed, cause_of, words_after, file_answer}
 use Rattle.rules.specs.declared.FileRead.{FileRead}
 use Rattle.rules.proofs.WordLaws.{book-facts, room-words}
 use Rattle.rules.proofs.CancelLaws.{lines-legal}

@@ -1,24 +1,22 @@
 -- Laws of the lines stored into a book: one after the other, and all of them. Assumes nothing.
 use mathlib.Core.Path.{◌≡◌, refl, sym, ◌∙◌, ap}
 use mathlib.Core.Bool.{true}
-use mathlib.Core.List.{List, [], ◌∷◌, ◌++◌, map, append_assoc}
-use Prim.Native.Nat.{ℕ, zero, suc, ◌+◌, ◌-◌, ◌*◌, ◌≤◌}
+use mathlib.Core.List.{List, [], ◌∷◌, ◌++◌, append_assoc}
+use Prim.Native.Nat.{ℕ, zero, suc, ◌+◌, ◌*◌, ◌≤◌}
 use native.Mathlib.Nat.{add-zero}
 use native.Mathlib.Omega.{arith}
 use lib.ListN.{length, take, drop, set, length-append, length-set, take-append-drop}
 use lib.Seq.{take_at, drop-drop, length-take-le}
 use borrow.Author.Tests.{eq-eqb}
-use Rattle.numbers.specs.Causes.{first_of}
 use Rattle.numbers.specs.Tests.{all}
-use Rattle.numbers.proofs.TestLaws.{and_split, and-join, all_append}
-use Rattle.numbers.proofs.CauseLaws.{else-split}
+use Rattle.numbers.proofs.TestLaws.{and_split, all_append}
 use Rattle.numbers.proofs.ListLaws.{drop-past}
-use Rattle.rules.specs.Entry.{Key, Record, record_of, standing, legal, fault}
+use Rattle.rules.specs.Entry.{Key, Record, record_of, standing, legal}
 use Rattle.rules.specs.Words.{word, encode, encode_all, used_words, laid, is_book, entries, count_of, coefficient_of, tolerance_of, room_in}
 use Rattle.rules.specs.Stores.{stored_at}
-use Rattle.rules.specs.DayFile.{Item, line, empty_block, head_item, item_cause, lines_of}
+use Rattle.rules.specs.DayFile.{Item, line, empty_block, head_item, lines_of}
 use Rattle.rules.proofs.WordLaws.{book-facts, book-laid, laid-used, encode_all-append, room-words}
-use Rattle.rules.proofs.BookLaws.{stored-words, new-legal}
+use Rattle.rules.proofs.BookLaws.{stored-words}
 use Rattle.file_walk.specs.declared.Cursor.{Cursor}
 use Rattle.file_walk.specs.declared.Line.{Line}
 use Rattle.file_walk.specs.Walk.{is_more, head_at, line_at, line_item, items_at, past_step, left_items}

@@ -1,5 +1,6 @@
 // The day file: lines posted into a book, all or none (document 01, 'Day file').
 #![tactic(auto)]
+
 ghost use Rattle.std.specs.Prelude.{◌≡◌};
 ghost use Rattle.rules.specs.DayFile.{is_file};
 ghost use Rattle.rules.specs.Calls.{words_after, file_answer};
