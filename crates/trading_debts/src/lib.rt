@@ -1,5 +1,6 @@
 // Internal: the debts of the latest days that each market chooses (01, 'Collateral', Trading). A caller meets each `requires`.
 #![tactic(auto)]
+
 ghost use Rattle.std.specs.Prelude.{◌≡◌, true, cond, ◌+◌, ◌-◌, ◌*◌, ◌≤◌, min};
 ghost use Rattle.rules.specs.Words.{is_book, entries};
 ghost use Rattle.rules.specs.Collateral.{debts, money_of};

@@ -1,5 +1,4 @@
 use mathlib.Core.Path.{refl}
-use Prim.Native.Nat.{◌-◌}
 use Rattle.rules.proofs.WordLaws.{book-facts, legal-bounds}
 use Rattle.cells.specs.Cells.{blank, filled}
 use Rattle.cells.proofs.ScanLaws.{read_at, scan-start, scan-more, scan-done, scan-within, scan-below, legal-at}
@@ -17,15 +16,15 @@ loop-i-init c = scan-start refl
 pub add_entry-requires : goal.add_entry-requires
 add_entry-requires c =
     let b = c.args.book.now in
+    let i = c.loop-i.i in
     let e = c.count_of-count.ensures in
     let below = c.loop-i-test.true in
-    rw c.place_of.ensures (
-      scan-within b c.requires c.loop-i.i e below,
-      (
-        (legal-bounds (read_at b c.loop-i.i) (legal-at b c.requires c.loop-i.i (rw e at below))).amount,
-        scan-below b c.requires 120 (window-limited c.args.party c.args.day) e c.loop-i.invariant,
-      ),
-    )
+    rw c.place_of.ensures
+    record {
+      at_in_bounds = scan-within b c.requires i e below;
+      book_bound = (legal-bounds (read_at b i) (legal-at b c.requires i (rw e at below))).amount;
+      at_most = scan-below b c.requires 120 (window-limited c.args.party c.args.day) e c.loop-i.invariant;
+    }
 
 pub loop-i-preserved : goal.loop-i-preserved
 loop-i-preserved c =
