@@ -8,7 +8,7 @@ use native.Mathlib.Numerals.{add-one}
 use native.Mathlib.Omega.{arith}
 use lib.Dec.{eqb, leb, ltb}
 use lib.ListN.{length, drop, length-replicate}
-use borrow.Author.Tests.{eqb-true, eq-eqb, ne_eqb, leb-true, ltb-true, le-leb, lt-ltb, not-true, not-false}
+use borrow.Author.Tests.{eqb-true, eq-eqb, ne_eqb, leb-true, ltb-true, le-leb, lt-ltb}
 use Rattle.numbers.specs.Sums.{total, count}
 use Rattle.numbers.specs.Tests.{every, all, any}
 use Rattle.numbers.proofs.SumLaws.{cond_below, count-le-length}
@@ -209,22 +209,22 @@ module _ (few : Bool) (d : ℕ) (r : Record) where
   unfolding pair_marked marked
   pair-long pairs = elim (bool_cases (is_other d r)) [ inl e ↦ rw e (length-bit pairs (bit_of few r)) | inr e ↦ rw e ]
 
-  pub of-day-cancelled : not (is_cancelled r && eqb (key r).day d) ≡ false → is_cancelled r ≡ true
-  of-day-cancelled h = (and_split (is_cancelled r) (eqb (key r).day d) (not-false _ h)).0
+  pub of-day-cancelled : is_cancelled r && eqb (key r).day d ≡ true → is_cancelled r ≡ true
+  of-day-cancelled h = (and_split (is_cancelled r) (eqb (key r).day d) h).0
 
   module _ (among : List Bool) (pairs : List ℕ) (flags : List Bool) where
     abbrev Marked : List Bool
     Marked = buyer_marked few d among pairs r flags
 
-    pub buyer-not : not (is_cancelled r && eqb (key r).day d) ≡ true → flags ≡ Marked
+    pub buyer-not : is_cancelled r && eqb (key r).day d ≡ false → flags ≡ Marked
     unfolding buyer_marked is_hit
-    buyer-not h = marked-no with_flag (is_hit few d among pairs) (λ x. (key x).counterparty) r flags (rw (not-true (is_cancelled r && eqb (key r).day d) h))
+    buyer-not h = marked-no with_flag (is_hit few d among pairs) (λ x. (key x).counterparty) r flags (rw h)
 
     -- past that test: the buyer's flag among some, and the bit
-    module _ (h : not (is_cancelled r && eqb (key r).day d) ≡ false) {k : ℕ} (n : k ≡ bit_of few r) {bit : Bool} (q : bit ≡ bit_at pairs k) where
+    module _ (h : is_cancelled r && eqb (key r).day d ≡ true) {k : ℕ} (n : k ≡ bit_of few r) {bit : Bool} (q : bit ≡ bit_at pairs k) where
       hit : is_hit few d among pairs r ≡ flagged among (key r).counterparty && bit
       unfolding is_hit
-      hit = rw (not-false (is_cancelled r && eqb (key r).day d) h, q, n)
+      hit = rw (h, q, n)
 
       pub buyer-marked : {then : List Bool} → flagged among (key r).counterparty && bit ≡ true → then ≡ with_flag flags (key r).counterparty → then ≡ Marked
       unfolding buyer_marked

@@ -1,5 +1,6 @@
 // Internal: the buyers of repeated pairs, by two scans of a checked book. A caller meets each `requires`.
 #![tactic(auto)]
+
 ghost use Rattle.std.specs.Prelude.{◌≡◌, true, false, cond, length};
 ghost use Rattle.calendar.specs.Calendar.{month_of};
 ghost use Rattle.rules.specs.Entry.{legal, record_in};

@@ -3,6 +3,6 @@ use mathlib.Core.Path.{refl}
 use Rattle.cells.specs.Cells.{blank}
 use Rattle.repeated_pairs.proofs.flag_repeated.Goals as goal
 
-pub flag_buyers-requires : goal.flag_buyers-requires
+pub flag_buyers-requires-clause-pairs_value : goal.flag_buyers-requires-clause-pairs_value
 unfolding blank
-flag_buyers-requires c = (c.requires.book_value, (refl, c.requires.buyers_value))
+flag_buyers-requires-clause-pairs_value c = refl

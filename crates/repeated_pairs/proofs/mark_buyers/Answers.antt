@@ -1,4 +1,3 @@
-use Prim.Native.Nat.{◌-◌}
 use Rattle.cells.proofs.ScanLaws.{scan}
 use Rattle.repeated_pairs.specs.Pairs.{buyers_of}
 use borrow.Author.Rules.{rules}
@@ -14,7 +13,7 @@ pub read_at-e-requires : goal.read_at-e-requires
 read_at-e-requires c = search scan
 
 pub mark_buyer-requires : goal.mark_buyer-requires
-mark_buyer-requires c = (search scan, search rules)
+mark_buyer-requires c = record { e_value = search scan; pairs_len = search rules }
 
 pub loop-i-preserved : goal.loop-i-preserved
 loop-i-preserved c = search scan

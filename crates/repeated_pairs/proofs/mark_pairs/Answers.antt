@@ -1,5 +1,4 @@
 use mathlib.Core.Path.{refl}
-use Prim.Native.Nat.{◌-◌}
 use native.Mathlib.Omega.{arith}
 use Rattle.numbers.specs.Sums.{total, count}
 use Rattle.rules.specs.Entry.{record_in}
@@ -21,7 +20,7 @@ pub read_at-e-requires : goal.read_at-e-requires
 read_at-e-requires c = search scan
 
 pub mark_pair-n-requires : goal.mark_pair-n-requires
-mark_pair-n-requires c = (search rules, (search scan, search pairs-scanned))
+mark_pair-n-requires c = record { period = search rules; e_value = search scan; pairs_len = search pairs-scanned }
 
 pub overflow_add-n : goal.overflow_add-n
 overflow_add-n c =
@@ -33,7 +32,7 @@ pub loop-i-preserved : goal.loop-i-preserved
 loop-i-preserved c =
     let m = c.mark_pair-n.ensures in
     let e = c.read_at-e.ensures in
-    (scan-next c.args.book.now c.requires.book_value c.loop-i.i c.count_of-last.ensures c.loop-i-test.taken e c.loop-i.invariant.0 m.1, others-next _ _ _ c.loop-i.invariant.1 e m.0)
+    (scan-next c.args.book.now c.requires.book_value c.loop-i.i c.count_of-last.ensures c.loop-i-test.true e c.loop-i.invariant.0 m.bits, others-next _ _ _ c.loop-i.invariant.1 e m.one)
 
 pub returns-clause-others : goal.returns-clause-others
 unfolding pairs_of

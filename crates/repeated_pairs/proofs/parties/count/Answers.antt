@@ -1,6 +1,4 @@
 use mathlib.Core.Path.{◌≡◌, refl, sym, ap, ◌∙◌}
-use mathlib.Core.Logic.{⊎_elim}
-use Prim.Native.Nat.{◌-◌}
 use native.Mathlib.Nat.{add-zero}
 use native.Mathlib.Omega.{arith}
 use Rattle.numbers.specs.Sums.{sum, count_below}
@@ -9,6 +7,7 @@ use Rattle.rules.specs.Control.{detected_parties}
 use Rattle.repeated_pairs.specs.Flags.{flagged}
 use borrow.Author.Rules.{rules}
 use Rattle.repeated_pairs.proofs.parties.count.Goals as goal
+use Rattle.repeated_pairs.proofs.parties.count.Goals.{then-flags-p, else-flags-p}
 
 pub loop-p-init : goal.loop-p-init
 unfolding count_below sum
@@ -22,10 +21,10 @@ loop-p-preserved c =
     let f = flagged c.args.flags.now in
     let s = count_below-step c.loop-p.p f in (
       omega arith,
-      ⊎_elim
-          (λ w. w.1 ∙ rw c.loop-p.invariant.1 (sym (s ∙ rw w.0.taken)))
-          (λ w. w.1 ∙ rw c.loop-p.invariant.1 (sym (s ∙ rw w.0.left (add-zero _))))
-          c.if-flags-p.branch,
+      elim c.if-flags-p.branch [
+        | then-flags-p w ↦ w.n-is ∙ rw c.loop-p.invariant.1 (sym (s ∙ rw w.if-flags-p.true))
+        | else-flags-p w ↦ w.n-is ∙ rw c.loop-p.invariant.1 (sym (s ∙ rw w.if-flags-p.false (add-zero _)))
+      ],
     )
 
 pub returns : goal.returns
