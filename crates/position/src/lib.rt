@@ -1,5 +1,6 @@
 // The tally of a party's day, and both balances (01, 'The two balances').
 #![tactic(auto)]
+
 ghost use Rattle.std.specs.Prelude.{◌≡◌, cond};
 ghost use Rattle.balance_formulas.specs.Bounded.{Bounded};
 ghost use Rattle.rules.specs.Balance.{tally_answer, balance_of, balance_answer, is_detected, day_ahead, delivery};

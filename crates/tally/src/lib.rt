@@ -1,5 +1,6 @@
 // Internal: the scan of a checked book for the tally and B, for the crates above it. A caller meets each `requires`.
 #![tactic(auto)]
+
 ghost use Rattle.std.specs.Prelude.{◌≡◌, ◌≤◌, true};
 ghost use Rattle.tally.specs.Scan.{scanned, none_for};
 ghost use Rattle.rules.specs.Entry.{last_party, last_day, is_volume};
