@@ -6,7 +6,7 @@ use Prim.Native.Nat.{ℕ, ◌+◌, ◌*◌, ◌/◌, ◌≤◌}
 use native.Mathlib.Omega.{arith}
 use lib.IntN.{ℤ}
 use lib.ListN.{length, take, drop}
-use lib.Seq.{take_all, length-take-le}
+use lib.Seq.{take_all}
 use Rattle.numbers.proofs.TestLaws.{and_split}
 use Rattle.rules.specs.DayFile.{words_of}
 use Rattle.rules.specs.Month.{Tables, tables_of, most_hours, month_answer}
@@ -82,6 +82,3 @@ module _ (ps vs : List ℕ) (rows : ℕ) (ds : List ℕ) (group : ℕ) where
 
       pub placed-read : Placed (tables_of words (figures_of vs) rows controls group)
       placed-read = rw tables-read p
-
-      pub row_read : r ≡ length words
-      row_read = rw e (omega (arith, length-take-le n (words_of ps) (omega (arith, length-words ps))))

@@ -1,5 +1,6 @@
 // The month step on tables in lent bytes, little-endian (document 01, 'Month step').
 #![tactic(auto)]
+
 ghost use Rattle.std.specs.Prelude.{◌≡◌, ◌&&◌, length};
 ghost use Rattle.rules.specs.Month.{month_answer};
 ghost use Rattle.month_step.specs.Ranges.{Placed};
@@ -51,8 +52,8 @@ fn step(
     controls: &mut [i32],
     row: &mut [i32],
 ) -> MonthAnswer
-    requires fact_1 { Placed (tables_in prices.now imbalance.now rows dm.now group) }
-    requires fact_2 { Hourly prices.now (length words.old) (length controls.old) (length row.old) }
+    requires placed { Placed (tables_in prices.now imbalance.now rows dm.now group) }
+    requires lent { Hourly prices.now (length words.old) (length controls.old) (length row.old) }
     ensures { result ≡ month_answer (tables_in prices.now imbalance.now rows dm.now group) }
 {
     word_bytes::read_words(prices, words);

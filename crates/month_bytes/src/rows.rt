@@ -23,8 +23,8 @@ pub fn answer(
     group: u32,
     row: &mut [i32],
 ) -> MonthAnswer
-    requires fact_1 { Placed (tables_of prices.now (figures_of imbalance.now) rows dm.now group) }
-    requires fact_2 { length row.old ≡ length prices.now }
+    requires placed { Placed (tables_of prices.now (figures_of imbalance.now) rows dm.now group) }
+    requires row_lent { length row.old ≡ length prices.now }
     ensures { result ≡ month_answer (tables_of prices.now (figures_of imbalance.now) rows dm.now group) }
 {
     if !(ranges::prices_ok(prices) & volumes_ok(imbalance) & ranges::volumes_ok(dm)) {
@@ -43,8 +43,8 @@ fn figures(
     group: u32,
     row: &mut [i32],
 ) -> Month
-    requires fact_1 { month_cause (tables_of prices.now (figures_of imbalance.now) rows dm.now group) ≡ 0 }
-    requires fact_2 { length row.old ≡ length prices.now }
+    requires no_cause { month_cause (tables_of prices.now (figures_of imbalance.now) rows dm.now group) ≡ 0 }
+    requires row_lent { length row.old ≡ length prices.now }
     ensures { result ≡ month_figures (tables_of prices.now (figures_of imbalance.now) rows dm.now group) }
 {
     let hours = prices.len();
@@ -64,8 +64,8 @@ fn figures(
 
 // Σ|imbalance| × price and Σ|imbalance| of the row that starts at a place of the imbalance.
 fn row_sums(prices: &[u32], imbalance: &[u8], at: usize, row: &mut [i32]) -> Sums
-    requires fact_1 { PricedRow prices.now (figures_of imbalance.now) at }
-    requires fact_2 { length row.old ≡ length prices.now }
+    requires priced { PricedRow prices.now (figures_of imbalance.now) at }
+    requires row_lent { length row.old ≡ length prices.now }
     ensures { (result.weighted ≡ row_weighted prices.now (figures_of imbalance.now) at) × (result.weights ≡ row_weights prices.now (figures_of imbalance.now) at) }
 {
     read_figures(imbalance, at, row);
@@ -74,8 +74,8 @@ fn row_sums(prices: &[u32], imbalance: &[u8], at: usize, row: &mut [i32]) -> Sum
 
 // Σ(imbalance − DM) of the row that starts at a place of the imbalance.
 fn row_volume(imbalance: &[u8], at: usize, dm: &[i32], row: &mut [i32]) -> i64
-    requires fact_1 { DmRow (figures_of imbalance.now) at dm.now }
-    requires fact_2 { length row.old ≡ length dm.now }
+    requires beside_dm { DmRow (figures_of imbalance.now) at dm.now }
+    requires row_lent { length row.old ≡ length dm.now }
     ensures { result ≡ row_volume (figures_of imbalance.now) at dm.now }
 {
     read_figures(imbalance, at, row);
