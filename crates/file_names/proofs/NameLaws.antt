@@ -36,9 +36,9 @@ module _ (f : Item → Bool) where
   unfolding any
   of_none e b = rw (e, or-false b)
 
-  pub of_one_lem : (i : Item) {is : List Item} → is ≡ i ∷ [] → any f is ≡ f i
+  pub of_one : (i : Item) {is : List Item} → is ≡ i ∷ [] → any f is ≡ f i
   unfolding any
-  of_one_lem i e = rw (e, or-false (f i))
+  of_one i e = rw (e, or-false (f i))
 
   pub names-step : (bs : List ℕ) (c : Cursor) → is_more bs c ≡ true → any f (left_items bs c) ≡ any f (items_at bs c) || any f (left_items bs (past_step bs c))
   names-step bs c more =

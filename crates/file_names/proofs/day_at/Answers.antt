@@ -12,16 +12,16 @@ use Rattle.file_walk.specs.declared.Cursor.{Cursor}
 use Rattle.file_walk.specs.declared.Line.{Line}
 use Rattle.file_walk.specs.Walk.{head_at, line_at, items_at, line_item}
 use Rattle.file_walk.proofs.WalkLaws.{head-whole, line-whole, block_held, nothing-held, line-held}
-use Rattle.file_names.proofs.NameLaws.{marked, of_none, of_one_lem}
+use Rattle.file_names.proofs.NameLaws.{marked, of_none, of_one}
 use Rattle.file_names.proofs.day_at.Goals as goal
 
 -- what the empty block or the line read holds
 module _ (bs : List ℕ) (c : Cursor) (p d : ℕ) where
   block-names : (h : Cursor) → c.left ≡ 0 → h ≡ head_at bs c.at → h.left ≡ 0 → any (item_names p d) (items_at bs c) ≡ item_names p d (empty_block h.party h.day)
-  block-names h z e n = of_one_lem _ _ (block_held bs c z h e n)
+  block-names h z e n = of_one _ _ (block_held bs c z h e n)
 
   line-names : (l : Line) → (c.left ≡ 0 → ⊥) → l ≡ line_at bs c → any (item_names p d) (items_at bs c) ≡ item_names p d (line_item l)
-  line-names l n e = of_one_lem _ _ (line-held bs c n l e)
+  line-names l n e = of_one _ _ (line-held bs c n l e)
 
 pub head_at-head-requires : goal.head_at-head-requires
 head_at-head-requires c = head-whole _ _ c.requires c.if-c-eq0.true

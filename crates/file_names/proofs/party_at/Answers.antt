@@ -11,13 +11,13 @@ use Rattle.file_walk.specs.declared.Line.{Line}
 use Rattle.file_walk.specs.Walk.{line_at, items_at}
 use Rattle.file_names.specs.Names.{item_has, is_named}
 use Rattle.file_walk.proofs.WalkLaws.{head-whole, line-whole, block_held, nothing-held, line-held}
-use Rattle.file_names.proofs.NameLaws.{marked, both-marked, of_none, of_one_lem}
+use Rattle.file_names.proofs.NameLaws.{marked, both-marked, of_none, of_one}
 use Rattle.file_names.proofs.party_at.Goals as goal
 
 -- what the line read holds
 line-has : (bs : List ℕ) (c : Cursor) (p : ℕ) (l : Line) → (c.left ≡ 0 → ⊥) → l ≡ line_at bs c → any (item_has p) (items_at bs c) ≡ is_named l.key.party l.key.counterparty p
 unfolding item_has
-line-has bs c p l n e = of_one_lem _ _ (line-held bs c n l e)
+line-has bs c p l n e = of_one _ _ (line-held bs c n l e)
 
 pub head_at-head-requires : goal.head_at-head-requires
 head_at-head-requires c = head-whole _ _ c.requires c.if-c-eq0.true
@@ -31,7 +31,7 @@ unfolding item_has
 returns-then-c-eq0 c =
     let a = c.args in
     let r = c.head_at-head.result in
-    λ p l. rw (c.mark.ensures, of_one_lem (item_has p) (empty_block r.party r.day) (block_held a.file.now a.c c.if-c-eq0.true r c.head_at-head.ensures c.if-head-ne0.false)) (marked a.parties.now r.party p l)
+    λ p l. rw (c.mark.ensures, of_one (item_has p) (empty_block r.party r.day) (block_held a.file.now a.c c.if-c-eq0.true r c.head_at-head.ensures c.if-head-ne0.false)) (marked a.parties.now r.party p l)
 
 pub line_at-next-requires : goal.line_at-next-requires
 line_at-next-requires c = line-whole _ _ c.requires c.if-c-eq0.false
