@@ -1,5 +1,6 @@
 // Collateral: each item and the total of a case (document 01, 'Collateral').
 #![tactic(auto)]
+
 ghost use Rattle.std.specs.Prelude.{◌≡◌};
 ghost use Rattle.rules.specs.Collateral.{collateral_cause, collateral_answer};
 

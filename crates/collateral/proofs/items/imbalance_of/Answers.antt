@@ -1,0 +1,48 @@
+-- `collateral::items::imbalance_of` meets its contract. Assumes nothing.
+use mathlib.Core.Path.{◌≡◌, ◌∙◌, ap}
+use native.Mathlib.Omega.{arith}
+use lib.IntN.{nat_abs}
+use mir.Syntax.{w64}
+use mir.Val.{to_z, of_z}
+use Rattle.rules.proofs.Limits.{case-ranges}
+use Rattle.collateral.proofs.UsedMonths.{volume-back}
+use Rattle.collateral.proofs.ItemLaws.{not-responsible, not_short, price-fits, product-fits, short}
+use Rattle.collateral.proofs.items.imbalance_of.Goals as goal
+use Rattle.collateral.proofs.items.imbalance_of.Goals.{After-lowest_volume-volume, After-magnitude}
+
+-- the lowest volume and its size, read back from its bits
+back : (c : After-lowest_volume-volume) → to_z w64 (of_z w64 c.lowest_volume-volume.result) ≡ c.lowest_volume-volume.result
+back c = volume-back c.lowest_volume-volume.result c.lowest_volume-volume.type_inv
+
+size : (c : After-magnitude) → c.magnitude.result ≡ nat_abs c.lowest_volume-volume.result
+size c = c.magnitude.ensures ∙ ap nat_abs (volume-back c.lowest_volume-volume.result c.lowest_volume-volume.type_inv)
+
+pub returns-then-group-ne1 : goal.returns-then-group-ne1
+returns-then-group-ne1 c = not-responsible c.args.case c.if-group-ne1.true
+
+pub lowest_volume-volume-requires : goal.lowest_volume-volume-requires
+lowest_volume-volume-requires c = (case-ranges c.args.case c.requires).used
+
+pub highest_price-price-requires : goal.highest_price-price-requires
+highest_price-price-requires c = (case-ranges c.args.case c.requires).used
+
+pub overflow_mul-product : goal.overflow_mul-product
+overflow_mul-product c =
+    let f = case-ranges c.args.case c.requires in
+    omega (arith, price-fits c.args.case c.if-group-ne1.false c.lowest_volume-volume.ensures f c.highest_price-price.ensures)
+
+pub overflow_mul-product-then-volume-lt0 : goal.overflow_mul-product-then-volume-lt0
+overflow_mul-product-then-volume-lt0 c =
+    let f = case-ranges c.args.case c.requires in
+    omega (arith, product-fits c.args.case c.if-group-ne1.false c.lowest_volume-volume.ensures f c.highest_price-price.ensures (size (goal.at.overflow_mul-product-then-volume-lt0 c).After-magnitude))
+
+pub returns-then-volume-lt0 : goal.returns-then-volume-lt0
+returns-then-volume-lt0 c =
+    let g = goal.at.returns-then-volume-lt0 c in
+    short c.args.case c.if-group-ne1.false c.lowest_volume-volume.ensures (case-ranges c.args.case c.requires) c.highest_price-price.ensures (size g.After-magnitude)
+    (rw (back g.After-lowest_volume-volume) at c.if-volume-lt0.true) c.round_up.ensures
+
+pub returns-else-volume-lt0 : goal.returns-else-volume-lt0
+returns-else-volume-lt0 c =
+    let g = goal.at.returns-else-volume-lt0 c in
+    not_short c.args.case c.if-group-ne1.false c.lowest_volume-volume.ensures (rw (back g.After-lowest_volume-volume) at c.if-volume-lt0.false)
