@@ -3,7 +3,7 @@
 use Rattle.std.specs.Prelude.{◌≡◌, Bool, true, false, not, cond, ◌&&◌, ◌||◌, List, [], ◌∷◌, ℕ, ◌+◌, ◌*◌, ◌≤◌, max, eqb, ℤ, length, get_or, replicate}
 use Rattle.std.proofs.Math.IntN.{sub_ℕ}
 use Rattle.numbers.specs.Tests.{every}
-use Rattle.rules.specs.Entry.{Label, Record, key, is_export, bilateral, updated_program, standing, party_ok, last_party, party_places}
+use Rattle.rules.specs.Entry.{Label, Record, is_export, bilateral, updated_program, standing, party_ok, last_party, party_places}
 use Rattle.rules.specs.Words.{entries, coefficient_of, tolerance_of, most_coefficient, most_tolerance}
 use Rattle.rules.specs.Balance.{is_detected}
 use Rattle.rules.specs.Control.{Parties, detected_in, is_repeated_buyer}

@@ -1,5 +1,6 @@
 // Internal: flags of parties by scans of a checked book, for the control of a day. A caller meets each `requires`.
 #![tactic(auto)]
+
 ghost use Rattle.std.specs.Prelude.{◌≡◌, true};
 ghost use Rattle.rules.specs.Words.{is_book};
 ghost use Rattle.repeated_pairs.specs.Flags.{flagged, no_flags};

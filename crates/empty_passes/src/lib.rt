@@ -1,5 +1,6 @@
 // Internal: whether a pass of a control has nobody, by scans of a checked book. A caller meets each `requires`.
 #![tactic(auto)]
+
 ghost use Rattle.std.specs.Prelude.{◌≡◌, true, false};
 ghost use Rattle.numbers.specs.Tests.{any};
 ghost use Rattle.rules.specs.Entry.{record_in};

@@ -1,0 +1,12 @@
+-- `detection::sums::fill` meets its contract. The loop's invariant: the table is that of the entries passed. Assumes nothing.
+use Prim.Native.Nat.{◌-◌}
+use Rattle.cells.specs.Cells.{added, blank}
+use Rattle.cells.proofs.ScanLaws.{Scanned}
+use Rattle.detection.specs.Tables.{day_cells, table_cells}
+use Rattle.detection.proofs.sums.fill.Given as goal
+
+abbrev pub invariant-loop-i : goal.invariant-loop-i
+invariant-loop-i l = Scanned (added (day_cells l.day)) (blank table_cells) l.book l.count l.i l.table
+
+abbrev pub decreases-loop-i : goal.decreases-loop-i
+decreases-loop-i l = l.count - l.i
