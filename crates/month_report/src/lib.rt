@@ -1,5 +1,6 @@
 // The month report: all parties' sums of each day of a month and type, and the month's totals (02, T-01).
 #![tactic(auto)]
+
 ghost use Rattle.std.specs.Prelude.{◌≡◌};
 ghost use Rattle.rules.specs.MonthReport.{month_report};
 
