@@ -1,5 +1,6 @@
 // Control of a day (document 01, 'Control of a day').
 #![tactic(auto)]
+
 ghost use Rattle.std.specs.Prelude.{◌≡◌};
 ghost use Rattle.rules.specs.Calls.{cause_of, words_after, control_answer};
 ghost use Rattle.rules.specs.Calls as calls;
