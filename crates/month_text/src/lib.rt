@@ -1,5 +1,6 @@
 // Internal: a month report as text (02, T-01). A caller meets each `requires`.
 #![tactic(auto)]
+
 ghost use Rattle.std.specs.Prelude.{◌+◌, ◌*◌, ◌≤◌, ◌∷◌, ◌++◌, length};
 ghost use Rattle.rules.specs.MonthReport.{line_sums};
 ghost use Rattle.text.specs.Text.{decimal, each_from, Wrote};
