@@ -12,7 +12,7 @@ use borrow.Author.Tests.{eqb-true, ne_eqb}
 use Rattle.numbers.specs.Tests.{any}
 use Rattle.numbers.proofs.TestLaws.{bool_cases}
 use Rattle.rules.specs.Words.{value_of}
-use Rattle.rules.specs.DayFile.{Item, lines_in, party_in, head_item, items_from, item_names}
+use Rattle.rules.specs.DayFile.{lines_in, party_in, head_item, items_from, item_names}
 
 -- f k + .. + f (k + n - 1)
 unfoldable pub sum_from : (ℕ → ℕ) → ℕ → ℕ → ℕ
