@@ -1,5 +1,6 @@
 // The billing period of a day, found in a table of the months' first days.
 #![tactic(auto)]
+
 ghost use Rattle.std.specs.Prelude.{◌≡◌};
 ghost use Rattle.calendar.specs.Calendar.{month_of};
 

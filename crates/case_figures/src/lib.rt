@@ -1,5 +1,6 @@
 // A collateral case, put together one figure at a time (01, 'Collateral'), and the month answers that it holds.
 #![tactic(auto)]
+
 ghost use Rattle.std.specs.Prelude.{◌≡◌};
 ghost use Rattle.case_figures.specs.CaseFigures.{plain_case, with_party, with_day, with_licence, with_holiday, with_responsible, with_capacity, with_nonbusiness, with_defaults, with_months, with_used, with_rk, with_rt, with_yt, with_score, with_best};
 

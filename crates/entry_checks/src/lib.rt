@@ -1,5 +1,6 @@
 // Internal: the checks of one entry by its figures, for the crates above it.
 #![tactic(auto)]
+
 ghost use Rattle.std.specs.Prelude.{◌≡◌, leb};
 ghost use Rattle.rules.specs.Entry.{key_in, party_ok, day_ok, is_type, is_volume, is_money, is_bilateral, counterparty_ok, amount_limit, fault};
 ghost use Rattle.entry_checks.specs.Parts.{counterparty_limit};

@@ -1,5 +1,6 @@
 // Internal: entries stored in a book's words, for the crates above it. A caller meets each `requires`.
 #![tactic(auto)]
+
 ghost use Rattle.std.specs.Prelude.{◌≡◌, true, ◌+◌, ◌<◌, ◌≤◌, length, drop};
 ghost use Rattle.rules.specs.Entry.{key_in, record_of, legal, standing};
 ghost use Rattle.rules.specs.Words.{entry_ok, room_in, count_of};

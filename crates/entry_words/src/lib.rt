@@ -1,5 +1,6 @@
 // Internal: the five words of one entry, read and checked, for the crates above it.
 #![tactic(auto)]
+
 ghost use Rattle.std.specs.Prelude.{◌≡◌, [], ◌∷◌};
 ghost use Rattle.rules.specs.Entry.{entry_of, amount_limit};
 ghost use Rattle.rules.specs.Words.{decode, entry_ok};

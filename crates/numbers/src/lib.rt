@@ -1,5 +1,6 @@
 // Leaves that later crates call: absolute value, the larger of two, and the two roundings.
 #![tactic(auto)]
+
 ghost use Rattle.std.specs.Prelude.{◌≡◌, max, nat_abs};
 ghost use Rattle.numbers.specs.Rounding.{half_up, round_up};
 

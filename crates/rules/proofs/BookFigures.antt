@@ -16,7 +16,7 @@ use Rattle.rules.specs.Machine.{Answer}
 use Rattle.rules.specs.Calls.{Figures, post_answer}
 use Rattle.rules.specs.Ledger.{Call, post, withdraw, book_after, book_answers, ledger_fault, stands_at, withdrawn_at, ledger_cause, ledger_done, ledger_after, ledger_answers}
 use Rattle.rules.specs.declared.EntryRead.{EntryRead}
-use Rattle.rules.proofs.Worked.{post_cause, post_words, withdraw_cause, withdraw_words, same_numbers, computed}
+use Rattle.rules.proofs.Worked.{post_words, withdraw_cause, withdraw_words, same_numbers, computed}
 use Rattle.rules.proofs.WordFigures.{fields, all_fields}
 
 -- what a call answers, and the words it leaves

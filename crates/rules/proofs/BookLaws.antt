@@ -1,7 +1,7 @@
 -- Laws of opening, and of what a post and a change of status store, on the words and on the records they hold. Assumes nothing.
 use mathlib.Core.Path.{◌≡◌, refl, sym, ap, ◌∙◌}
 use mathlib.Core.Logic.{inl, inr, ◌≢◌}
-use mathlib.Core.Bool.{Bool, true, false, not, ◌&&◌, false≢true}
+use mathlib.Core.Bool.{true, false, ◌&&◌, false≢true}
 use mathlib.Core.List.{List, [], ◌∷◌, ◌++◌}
 use Prim.Native.Nat.{ℕ, zero, suc, ◌+◌, ◌*◌, ◌≤◌, ◌<◌, zero-le}
 use native.Mathlib.Numerals.{add-one, add-two, add-three, add-four}
@@ -9,10 +9,10 @@ use native.Mathlib.Omega.{arith}
 use lib.Dec.{eqb, leb, ltb}
 use lib.ListN.{length, get_or, take, drop, set, length-append, length-set}
 use lib.Seq.{drop-drop, sets-eq, take_at}
-use borrow.Author.Tests.{leb-true, ltb-true, eqb-true, le-leb, not-true}
+use borrow.Author.Tests.{leb-true, eqb-true, le-leb}
 use Rattle.numbers.specs.Tests.{all}
 use Rattle.numbers.specs.Causes.{unless}
-use Rattle.numbers.proofs.TestLaws.{all_set, and_split, and-join, or_cases, or_right, all_append, all_get_d}
+use Rattle.numbers.proofs.TestLaws.{and_split, or_cases, or_right}
 use Rattle.numbers.proofs.CauseLaws.{clear-all, unless-zero, done-else}
 use Rattle.numbers.proofs.ListLaws.{drop-past}
 use Rattle.rules.specs.Entry.{Key, Record, key_of, record_of, key, no_record, with_status, legal, fault, status_ok, mark_ok, is_mark, is_standing, is_bilateral, standing, withdrawn, cancelled, mark_type}

@@ -6,21 +6,21 @@ use mathlib.Core.List.{List, [], ◌∷◌, ◌++◌, map}
 use Prim.Native.Nat.{ℕ, zero, suc, ◌+◌, ◌*◌, ◌≤◌, ◌<◌, ◌/◌, min}
 use native.Mathlib.Omega.{arith}
 use lib.Dec.{leb, ltb}
-use lib.ListN.{length, get_or, take, drop, set, length-take, length-set, take-append-drop}
+use lib.ListN.{length, take, drop, set, length-take, length-set, take-append-drop}
 use lib.Seq.{set-append_left}
 use borrow.Author.Tests.{ltb-true}
 use Rattle.numbers.specs.Causes.{unless, first_of}
 use Rattle.numbers.proofs.TestLaws.{bool_cases}
 use Rattle.numbers.proofs.CauseLaws.{done-else, done-zero}
-use Rattle.rules.specs.Entry.{Key, Record, record_of, key, no_record, with_status, fault, is_mark, is_standing, standing, withdrawn, day_ok}
+use Rattle.rules.specs.Entry.{Key, Record, key, fault, is_mark, is_standing, withdrawn, day_ok}
 use Rattle.rules.specs.Words.{word, value_of, frame_of, is_book, entries, count_of, coefficient_of, tolerance_of, room_in, laid, book_words, used_with}
-use Rattle.rules.specs.Book.{open_cause, open_words, is_closed, shut_to, entry_at, post_refusal, stands_at, withdraw_refusal, withdrawn_at}
+use Rattle.rules.specs.Book.{open_cause, open_words, is_closed, shut_to, entry_at, post_refusal, withdraw_refusal, withdrawn_at}
 use Rattle.rules.specs.Stores.{posted, restatused}
 use Rattle.rules.specs.Control.{control_refusal}
 use Rattle.rules.specs.DayFile.{Item, is_file, words_of, lines_in, party_in, head_item, items_from, items, item_cause, lines_of, file_refusal}
-use Rattle.rules.specs.Machine.{leaves_of, figures_of}
-use Rattle.rules.specs.Calls.{Change, post, withdraw, control, file, Figures, no_figures, refusal, figures_on, changed, on_records, book_machine, cause_of, figures_at, words_after}
-use Rattle.rules.proofs.WordLaws.{length-read, book-facts}
+use Rattle.rules.specs.Machine.{figures_of}
+use Rattle.rules.specs.Calls.{Change, post, withdraw, control, file, no_figures, refusal, figures_on, changed, on_records, book_machine, cause_of, figures_at, words_after}
+use Rattle.rules.proofs.WordLaws.{length-read}
 use Rattle.rules.proofs.BookLaws.{open-limits, Stays, entry-at, posted-book, restatused-book}
 use Rattle.rules.proofs.LiftLaws.{SameView, room-alike, cut-long, cut-view, Passes, passes, SameFor, with-room, same-cause, same-figures, refused-leaves, done-leaves, lifted-stays, cut-leaves}
 use Rattle.rules.proofs.ChangeLaws.{post-clear, withdraw-clear, control-clear, file-clear, changes-keep, adds, changes-roomy}

@@ -1,17 +1,16 @@
 -- Cancelling and the lines of a file, on records: they stay legal, and how many they are. Assumes nothing.
 use mathlib.Core.Path.{◌≡◌, refl, ap, ◌∙◌}
-use mathlib.Core.Logic.{inl, inr}
-use mathlib.Core.Bool.{Bool, true, cond}
+use mathlib.Core.Bool.{true}
 use mathlib.Core.List.{List, [], ◌∷◌, map}
-use Prim.Native.Nat.{ℕ, suc, ◌+◌, ◌≤◌}
+use Prim.Native.Nat.{ℕ, ◌+◌, ◌≤◌}
 use lib.Dec.{eqb}
 use lib.ListN.{length}
 use borrow.Author.Tests.{eqb-true}
 use Rattle.numbers.specs.Tests.{all}
 use Rattle.numbers.specs.Causes.{first_of}
-use Rattle.numbers.proofs.TestLaws.{bool_cases, and_split, and-join, every_holds, all_append}
+use Rattle.numbers.proofs.TestLaws.{and-join, every_holds, all_append}
 use Rattle.numbers.proofs.CauseLaws.{else-split}
-use Rattle.rules.specs.Entry.{Record, key, record_of, with_status, legal, fault, is_standing, is_bilateral, standing, cancelled}
+use Rattle.rules.specs.Entry.{Record, key, record_of, legal, fault, is_standing, is_bilateral, standing, cancelled}
 use Rattle.rules.specs.Control.{Parties, is_to_cancel, cancel_of, first_pass, second_pass, after_first, after_second, mark_of, controlled_records}
 use Rattle.rules.specs.DayFile.{Item, line, empty_block, item_cause, lines_of}
 use Rattle.rules.proofs.BookLaws.{cancel-legal, mark-legal, new-legal, length-snoc}

@@ -1,13 +1,13 @@
 -- What the clear causes of each call say; that each call that changes a book keeps its records legal and within the room, and looks at the room
 -- only for whether the entries that it adds fit. Assumes nothing.
-use mathlib.Core.Path.{◌≡◌, refl, sym, ap, ◌∙◌}
+use mathlib.Core.Path.{◌≡◌, refl, sym}
 use mathlib.Core.Logic.{inl, inr}
-use mathlib.Core.Bool.{Bool, true, false, not, ◌&&◌}
-use mathlib.Core.List.{List, [], ◌∷◌, ◌++◌, map}
+use mathlib.Core.Bool.{true, false, not, ◌&&◌}
+use mathlib.Core.List.{List, [], ◌∷◌, map}
 use Prim.Native.Nat.{ℕ, ◌+◌, ◌≤◌, ◌<◌}
 use native.Mathlib.Omega.{arith}
 use lib.Dec.{leb, ltb}
-use lib.ListN.{length, get_or, set, length-append, length-set}
+use lib.ListN.{length, get_or, length-append, length-set}
 use borrow.Author.Tests.{leb-true, ltb-true, ltb-false, le-leb, lt-leb, not-true}
 use Rattle.numbers.specs.Tests.{all}
 use Rattle.numbers.specs.Causes.{unless, first_of}

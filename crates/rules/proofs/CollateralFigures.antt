@@ -1,6 +1,6 @@
 -- Worked figures of 01, 'Collateral': the ranges of a case, each item, the total and the case's figures one by one.
 -- Each figure is worked out from the sentence of 01 that its comment names, with numbers small enough to do it by hand.
-use mathlib.Core.Bool.{Bool, true, false, ◌&&◌}
+use mathlib.Core.Bool.{Bool, true}
 use mathlib.Core.List.{List, [], ◌∷◌, ◌++◌}
 use mathlib.Core.Path.{◌≡◌, refl}
 use Prim.Native.Nat.{ℕ, zero, suc}

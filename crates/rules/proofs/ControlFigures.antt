@@ -2,7 +2,7 @@
 -- Every book has R 200 and TM 100, so that a party is detected if its day-ahead sales are above 100 and above twice its cover.
 -- Books are written as words by 01, 'The words', and so are the books that a control leaves: no definition writes them.
 -- Day 5 is controlled; days 0 to 30 are January 2000, day 31 is the first of February, day 371 is 2001-01-06.
-use mathlib.Core.Bool.{Bool, true, false, not, ◌&&◌}
+use mathlib.Core.Bool.{Bool, true, not, ◌&&◌}
 use mathlib.Core.List.{List, [], ◌∷◌, ◌++◌}
 use mathlib.Core.Path.{◌≡◌, refl}
 use Prim.Native.Nat.{ℕ, ◌+◌, ◌*◌, ◌%◌}

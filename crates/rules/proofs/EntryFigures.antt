@@ -5,7 +5,6 @@ use mathlib.Core.List.{List, [], ◌∷◌, map}
 use mathlib.Core.Path.{◌≡◌, refl}
 use Prim.Native.Nat.{ℕ}
 use lib.Dec.{eqb}
-use lib.ListN.{replicate}
 use Rattle.numbers.specs.Tests.{every}
 use Rattle.rules.specs.Refusals.{not_a_book, bad_file, bad_party, bad_day, bad_type, bad_counterparty, bad_amount, day_closed, no_room, no_entry, bad_length, bad_figure}
 use Rattle.rules.specs.Entry.{Record, key_of, record_of, record_in, entry_of, is_volume, is_money, is_type, is_export, is_bilateral, is_standing, is_cancelled, is_mark, fault, mark_ok, status_ok, legal}

@@ -15,7 +15,7 @@ use Rattle.case_figures.specs.CaseFigures.{no_month, with_nonbusiness, with_holi
 use Rattle.rules.specs.DayFile.{file_names}
 use Rattle.rules.specs.Calls.{control_answer}
 use Rattle.rules.specs.Ledger.{post, withdraw}
-use Rattle.rules.proofs.Worked.{post_cause, withdraw_cause, control_cause, control_words, minus, is_signed, is_date, book, default_book, own, on, sold, balance_is, both_are, acquired_is, case, generator, margin_is, imbalance_is, yek_is, trading_is, tables, price_is, recordable_is, nets, short, two_rows, wild, dear, total_is, sample, empty_blocks, file_is, file_balance_is, status_is, chain, august, september, one_day, computed}
+use Rattle.rules.proofs.Worked.{post_cause, withdraw_cause, control_cause, control_words, minus, is_signed, is_date, book, default_book, own, on, sold, balance_is, both_are, acquired_is, case, generator, margin_is, imbalance_is, yek_is, trading_is, tables, price_is, recordable_is, nets, short, two_rows, wild, dear, total_is, sample, empty_blocks, file_is, file_balance_is, status_is, august, september, one_day, computed}
 
 -- where a line names no tolerance, R is 110 and TM 600,000, named at opening (02, T-12)
 pub starred : List Bool

@@ -3,22 +3,22 @@ use mathlib.Core.Path.{◌≡◌, refl, sym, ap, ap₂, ◌∙◌}
 use mathlib.Core.Logic.{inl, inr, ◌≢◌}
 use mathlib.Core.Bool.{Bool, true, false, true≢false, ◌&&◌}
 use mathlib.Core.List.{List, [], ◌∷◌, ◌++◌, append_assoc}
-use Prim.Native.Nat.{ℕ, zero, suc, ◌+◌, ◌*◌, ◌≤◌, ◌<◌, min}
+use Prim.Native.Nat.{ℕ, zero, suc, ◌+◌, ◌*◌, ◌≤◌, min}
 use native.Mathlib.Nat.{min-le_right}
 use native.Mathlib.Omega.{arith}
 use lib.Dec.{leb}
-use lib.ListN.{length, get_or, take, drop, length-take, take-append-drop}
+use lib.ListN.{length, take, drop, length-take, take-append-drop}
 use lib.Seq.{get_or-take, drop-append-le}
 use borrow.Author.Tests.{leb-true, leb-false, le-leb, lt-leb}
 use Rattle.numbers.specs.Tests.{all, every}
-use Rattle.numbers.specs.Causes.{unless, or_else, if_done}
+use Rattle.numbers.specs.Causes.{unless}
 use Rattle.numbers.proofs.TestLaws.{bool_cases, below-or-above}
 use Rattle.numbers.proofs.CauseLaws.{unless-zero, else-split, done-else, done-zero}
 use Rattle.rules.specs.Entry.{Record, legal}
 use Rattle.rules.specs.Words.{Frame, frame_of, kind_at, is_book, entries, entries_ok, count_of, coefficient_of, tolerance_of, room_in, used_words, laid}
 use Rattle.rules.specs.Machine.{Machine, leaves_of, figures_of}
 use Rattle.rules.specs.Calls.{lifted}
-use Rattle.rules.proofs.WordLaws.{Fits, laid-book, room-words, book-facts, Agree, agree-drop, read-agree, entries_ok-agree}
+use Rattle.rules.proofs.WordLaws.{Fits, room-words, book-facts, Agree, agree-drop, read-agree, entries_ok-agree}
 use Rattle.rules.proofs.BookLaws.{Stays, laid-stays}
 
 -- a refused call leaves the state as it was

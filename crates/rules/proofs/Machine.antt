@@ -3,7 +3,7 @@ use mathlib.Core.Path.{◌≡◌, refl, ap₂}
 use mathlib.Core.List.{List, [], ◌∷◌}
 use Prim.Native.Nat.{ℕ, zero, suc}
 use Rattle.numbers.specs.Causes.{if_done}
-use Rattle.rules.specs.Machine.{Machine, Answer, leaves_of, figures_of, after, answers}
+use Rattle.rules.specs.Machine.{Machine, leaves_of, figures_of, after, answers}
 use Rattle.rules.specs.Compared.{Each}
 
 -- two calls on two machines agree: equal causes and, where none holds, equal figures and related states

@@ -1,6 +1,6 @@
 -- Worked figures of 01, 'Month step': each limit at its edge and one beyond, lengths that don't agree, both figures over several rows, halves up, signs.
 use mathlib.Core.Bool.{Bool, true}
-use mathlib.Core.List.{List, [], ◌∷◌, ◌++◌}
+use mathlib.Core.List.{List, [], ◌∷◌}
 use mathlib.Core.Path.{◌≡◌, refl}
 use Prim.Native.Nat.{ℕ}
 use lib.Dec.{eqb}

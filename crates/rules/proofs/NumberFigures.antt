@@ -1,17 +1,17 @@
 -- Worked figures of the definitions that document 01 takes for granted: roundings, sums, tests of a list, causes in order, signs.
 -- Each is worked out on paper from the sentence in its comment.
-use mathlib.Core.Bool.{Bool, true, false, not, ◌&&◌}
+use mathlib.Core.Bool.{Bool, true, false, not}
 use mathlib.Core.List.{List, [], ◌∷◌}
 use mathlib.Core.Path.{◌≡◌, refl}
 use Prim.Native.Nat.{ℕ, ◌+◌, ◌*◌}
-use lib.Dec.{eqb, leb, ltb}
-use lib.IntN.{ℤ, pos}
+use lib.Dec.{eqb, ltb}
+use lib.IntN.{pos}
 use Rattle.numbers.specs.Sums.{sum, total, count, count_below}
 use Rattle.numbers.specs.Tests.{every, all, any, all_below}
 use Rattle.numbers.specs.Causes.{unless, or_else, first_of, if_done}
 use Rattle.numbers.specs.Rounding.{half_up, round_up}
 use Rattle.numbers.specs.Signed.{is_positive, is_negative, lower, sum_ℤ}
-use Rattle.rules.proofs.Worked.{minus, is_signed, same_numbers, computed}
+use Rattle.rules.proofs.Worked.{minus, is_signed, computed}
 
 -- `every` tells a list with one failed test, first, between or last; the lists of figures rest on it, so it is shown without it
 pub tests-told :

@@ -1,15 +1,15 @@
 -- The calls that only read a book depend on nothing but its view. Assumes nothing.
 use mathlib.Core.Path.{◌≡◌, sym, ap, ◌∙◌}
 use mathlib.Core.Logic.{inl, inr}
-use mathlib.Core.Bool.{Bool, true, false}
+use mathlib.Core.Bool.{true, false}
 use mathlib.Core.List.{List, []}
 use Prim.Native.Nat.{ℕ, ◌<◌}
 use lib.Dec.{ltb}
 use lib.ListN.{length, get_or}
 use borrow.Author.Tests.{ltb-true}
 use Rattle.numbers.proofs.TestLaws.{bool_cases}
-use Rattle.rules.specs.Entry.{Record, no_record}
-use Rattle.rules.specs.Words.{is_book, entries, count_of, coefficient_of, tolerance_of}
+use Rattle.rules.specs.Entry.{no_record}
+use Rattle.rules.specs.Words.{is_book, count_of}
 use Rattle.rules.specs.Book.{entry_at, count_cause, count_answer, read_cause, read_answer}
 use Rattle.rules.specs.Balance.{Volume, party_day_cause, balance_answer, tally_answer}
 use Rattle.rules.specs.Collateral.{collateral_cause, collateral_answer}

@@ -8,7 +8,7 @@ use native.Mathlib.Omega.{arith}
 use lib.Dec.{eqb, leb, ltb}
 use lib.ListN.{length}
 use borrow.Author.Tests.{lt-leb, le-ltb, ne_eqb}
-use Rattle.rules.specs.Entry.{Key, Record, record_of, key}
+use Rattle.rules.specs.Entry.{Key, Record, record_of}
 use Rattle.rules.specs.Ledger.{Call, post, withdraw, ledger, ledger_fault, stands_at, withdrawn_at, ledger_cause, ledger_done}
 use Rattle.rules.specs.Compared.{InRange, AlikeCalls, equal, amounts, SameLabel}
 use Rattle.rules.proofs.EachLaws.{each-length, each_snoc}

@@ -1,12 +1,11 @@
 -- What the worked figures are written with: books made by opening and posting, tables, cases, files, and the functions that they compute with.
 -- Every figure comes from the functions that the contracts cite.
-use mathlib.Core.Bool.{Bool, true, false, not, cond, ◌&&◌, beq}
+use mathlib.Core.Bool.{Bool, true, false, ◌&&◌, beq}
 use mathlib.Core.List.{List, [], ◌∷◌, ◌++◌}
-use mathlib.Core.Path.{◌≡◌, refl}
-use Prim.Native.Nat.{ℕ, ◌+◌, ◌/◌, ◌%◌}
+use Prim.Native.Nat.{ℕ, ◌/◌, ◌%◌}
 use lib.Dec.{eqb}
 use lib.IntN.{ℤ, pos, neg_ℤ}
-use lib.ListN.{length, replicate, set, take}
+use lib.ListN.{length, replicate}
 use lib.Signed.{le_z}
 use Rattle.numbers.specs.Sums.{sum, total, count, count_below}
 use Rattle.numbers.specs.Tests.{every, all, any}
@@ -19,17 +18,17 @@ use Rattle.rules.specs.Book.{open_cause, open_words, open_default_words, is_clos
 use Rattle.rules.specs.Balance.{Volume, day_ahead, delivery, counted, counted_to, sum_of, bought_by, tally_of, acquired, program_used, sale_side, cover_side, balance_of, balance, is_detected, party_day_cause, balance_answer, tally_answer}
 use Rattle.rules.specs.Month.{Tables, month_cause, weighted_prices, weights, aosmf, aedm, month_figures, month_answer}
 use Rattle.rules.specs.Collateral.{generation_margin, margin, trading_days, debt_of, debts, debt, quarters, trading, highest_price, lowest_volume, imbalance_over, imbalance, risk, yek, total_of, month_ok, figures_ok, collateral_cause, collateral_of, collateral_answer}
-use Rattle.case_figures.specs.CaseFigures.{no_month, plain_case, with_party, with_day, with_licence, with_capacity, with_nonbusiness, with_holiday, with_defaults, with_responsible, with_months, with_used, with_rk, with_rt, with_yt, with_score, with_best}
+use Rattle.case_figures.specs.CaseFigures.{plain_case, with_party, with_day, with_licence, with_capacity, with_yt, with_score, with_best}
 use Rattle.rules.specs.Ceiling.{is_recordable, ceiling_cause, ceiling_answer}
 use Rattle.rules.specs.FirstDay.{first_day_cause, first_day_answer}
 use Rattle.rules.specs.MonthReport.{reported, day_sum, month_total, day_line, day_lines, total_line, report_lines, month_report_cause, report_of, refused_report, month_report}
 use Rattle.rules.specs.MonthTotals.{chosen, amounts, of_month, export_of}
 use Rattle.rules.specs.Control.{detected_in, is_to_cancel, cancel_of, is_repeated_buyer, first_pass, after_first, second_pass, after_second, mark_of, control_refusal, controlled_records, detected_parties, cancelled_entries}
-use Rattle.rules.specs.DayFile.{words_of, is_shaped, is_file, Item, items_from, items, item_cause, lines_of, file_refusal, item_names, file_names}
+use Rattle.rules.specs.DayFile.{words_of, is_shaped, is_file, items_from, items, item_cause, lines_of, file_refusal, item_names, file_names}
 use Rattle.rules.specs.Machine.{leaves_of, figures_of, after, answers}
 use Rattle.rules.specs.Calls.{refusal, figures_on, changed, cause_of, figures_at, words_after, control_answer, file_answer}
 use Rattle.rules.specs.Calls as calls
-use Rattle.rules.specs.Ledger.{Call, post, withdraw, book_after, book_answers}
+use Rattle.rules.specs.Ledger.{Call, post, book_after, book_answers}
 use Rattle.case_figures.specs.declared.Month.{Month}
 use Rattle.case_figures.specs.declared.Case.{Case}
 

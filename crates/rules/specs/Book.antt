@@ -4,7 +4,7 @@ use Rattle.numbers.specs.Tests.{any}
 use Rattle.numbers.specs.Causes.{unless, first_of, if_done}
 use Rattle.rules.specs.Refusals.{not_a_book, day_closed, no_room, no_entry, bad_length, bad_figure}
 use Rattle.rules.specs.Entry.{Key, Record, key, no_record, with_status, fault, is_mark, is_standing, is_bilateral, withdrawn}
-use Rattle.rules.specs.Words.{Frame, word, decode, is_book, entries, count_of, most_coefficient, most_tolerance}
+use Rattle.rules.specs.Words.{Frame, word, decode, is_book, count_of, most_coefficient, most_tolerance}
 use Rattle.rules.specs.declared.Counted.{Counted}
 use Rattle.rules.specs.declared.EntryRead.{EntryRead}
 

@@ -1,5 +1,5 @@
 -- The sales ceiling (01, 'Sales ceiling').
-use Rattle.std.specs.Prelude.{Bool, cond, ◌&&◌, [], ◌∷◌, ℕ, ◌+◌, ◌*◌, max, leb}
+use Rattle.std.specs.Prelude.{Bool, cond, [], ◌∷◌, ℕ, ◌+◌, ◌*◌, max, leb}
 use Rattle.numbers.specs.Tests.{every}
 use Rattle.numbers.specs.Causes.{unless, first_of, if_done}
 use Rattle.rules.specs.Refusals.{bad_figure}

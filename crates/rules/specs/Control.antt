@@ -1,5 +1,5 @@
 -- Control of a day (01, 'Control of a day').
-use Rattle.std.specs.Prelude.{Bool, not, cond, ◌&&◌, List, [], ◌∷◌, ◌++◌, ℕ, ◌+◌, eqb, leb, ltb, length}
+use Rattle.std.specs.Prelude.{Bool, not, ◌&&◌, List, [], ◌∷◌, ◌++◌, ℕ, ◌+◌, eqb, ltb, length}
 use Rattle.numbers.specs.Sums.{count, count_below}
 use Rattle.numbers.specs.Tests.{every, any}
 use Rattle.numbers.specs.Causes.{unless, first_of}

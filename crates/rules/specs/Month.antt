@@ -1,5 +1,5 @@
 -- The month step (01, 'Month step').
-use Rattle.std.specs.Prelude.{Bool, ◌&&◌, List, [], ◌∷◌, ℕ, ◌+◌, ◌*◌, eqb, leb, ltb, ℤ, pos, nat_abs, ◌-ℤ◌, length, get_or}
+use Rattle.std.specs.Prelude.{Bool, List, [], ◌∷◌, ℕ, ◌+◌, ◌*◌, eqb, leb, ltb, ℤ, pos, nat_abs, ◌-ℤ◌, length, get_or}
 use Rattle.numbers.specs.Sums.{sum}
 use Rattle.numbers.specs.Tests.{every, all}
 use Rattle.numbers.specs.Causes.{unless, first_of, if_done}

@@ -1,7 +1,7 @@
 -- The words of a book, and what a book is (01, 'The words').
 use Rattle.std.specs.Prelude.{Bool, true, ◌&&◌, List, [], ◌∷◌, ◌++◌, ℕ, zero, suc, ◌+◌, ◌-◌, ◌*◌, ◌/◌, ◌%◌, min, eqb, leb, length, get_or, drop}
 use Rattle.numbers.specs.Tests.{every}
-use Rattle.rules.specs.Entry.{Key, Record, key_of, record_of, key, legal}
+use Rattle.rules.specs.Entry.{Record, key_of, record_of, key, legal}
 
 -- a word has 32 bits; its top four are its kind, those below them its value
 abbrev pub values : ℕ

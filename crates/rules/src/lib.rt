@@ -1,5 +1,6 @@
 // Document 01 as definitions (specs/) and the data types that calls take and answer. No code.
 #![tactic(auto)]
+
 use case_figures::Month;
 
 pub mod bounds;

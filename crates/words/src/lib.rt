@@ -1,5 +1,6 @@
 // Internal: the words of a book, for the crates above it. A caller meets each `requires`.
 #![tactic(auto)]
+
 ghost use Rattle.std.specs.Prelude.{◌≡◌, true, ◌+◌, ◌*◌, ◌<◌, ◌≤◌, length, drop};
 ghost use Rattle.rules.specs.Entry.{key_in, entry_of, key};
 ghost use Rattle.rules.specs.Words.{decode, entry_ok, entries_ok, room_in, count_of, coefficient_of, tolerance_of, is_book, entries};

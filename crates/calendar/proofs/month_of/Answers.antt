@@ -1,12 +1,11 @@
 use mathlib.Core.Path.{◌≡◌, sym}
-use Prim.Native.Nat.{ℕ, suc, ◌+◌, ◌-◌, ◌/◌, ◌≤◌, ◌<◌}
+use Prim.Native.Nat.{ℕ, suc, ◌+◌, ◌/◌, ◌≤◌, ◌<◌}
 use native.Mathlib.Omega.{arith}
 use lib.ListN.{get_or}
 use Rattle.calendar.specs.Calendar.{months, month_start}
 use Rattle.calendar.proofs.MonthLaws.{start-zero, start-end, month-unique, month-past}
 use Rattle.calendar.proofs.MonthTable.{table, table_at}
 use Rattle.calendar.proofs.month_of.Goals as goal
-
 
 -- what a test of a table entry says of the month's start
 entry-from : (k day : ℕ) → k ≤ months → get_or table k 0 ≤ day → month_start k ≤ day

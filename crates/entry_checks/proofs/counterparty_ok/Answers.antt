@@ -11,7 +11,6 @@ use Rattle.rules.specs.Entry.{key_of, counterparty_ok, bilateral}
 use Rattle.entry_checks.specs.Parts.{counterparty_limit}
 use Rattle.entry_checks.proofs.counterparty_ok.Goals as goal
 
-
 none-but-0 : (c : ℕ) → leb c 0 && not false ≡ eqb c 0
 none-but-0 zero = refl
 none-but-0 (suc c) = rw (lt-leb (suc c) 0 (omega arith), ne_eqb (suc c) 0 (λ q. omega arith))
