@@ -1,5 +1,6 @@
 // Internal: both balances of a tally, for the crates above (01, 'The two balances'). A caller meets each `requires`.
 #![tactic(auto)]
+
 ghost use Rattle.std.specs.Prelude.{◌≡◌, ◌+◌, ◌*◌, ◌≤◌, max};
 ghost use Rattle.std.proofs.Math.IntN.{sub_ℕ};
 ghost use Rattle.balance_formulas.specs.Bounded.{Bounded, SumsWithin, most_sum};

@@ -1,5 +1,6 @@
 // The book in lent words: is it a book, post, withdraw, the number of entries and one entry (document 01, 'The words', 'Entry types').
 #![tactic(auto)]
+
 ghost use Rattle.std.specs.Prelude.{◌≡◌};
 ghost use Rattle.rules.specs.Entry.{key_in, record_in};
 ghost use Rattle.rules.specs.Words.{is_book};

@@ -1,5 +1,6 @@
 // Internal: a day file read into a book in lent bytes. The caller of each function with a `requires` meets it.
 #![tactic(auto)]
+
 ghost use Rattle.std.specs.Prelude.{◌≡◌, ◌≤◌, ◌/◌, length};
 ghost use Rattle.rules.specs.Words.{book_words};
 ghost use Rattle.rules.specs.Refusals.{not_a_book};

@@ -1,5 +1,6 @@
 // Internal: an opening of a book in lent bytes: three words are written where they lie, that with the count last.
 #![tactic(auto)]
+
 ghost use Rattle.std.specs.Prelude.{◌≡◌, length};
 ghost use Rattle.rules.specs.Refusals.{not_a_book};
 ghost use Rattle.rules.specs.Book.{open_cause, open_words, open_default_cause, open_default_words};

@@ -2,9 +2,6 @@
 use Rattle.std.specs.Prelude.{List, [], ℕ, pos}
 use Rattle.rules.specs.Book.{count_answer, no_read, read_answer}
 use Rattle.rules.specs.Balance.{no_tally, tally_answer, balance_answer, day_ahead, delivery}
-use Rattle.rules.specs.declared.Counted.{Counted}
-use Rattle.rules.specs.declared.EntryRead.{EntryRead}
-use Rattle.rules.specs.declared.TallyAnswer.{TallyAnswer}
 use Rattle.rules.specs.declared.BalanceAnswer.{BalanceAnswer}
 use Rattle.word_bytes.specs.Bytes.{on_words}
 use Rattle.byte_questions.specs.declared.Question.{Question}

@@ -1,6 +1,7 @@
 // Internal: questions about a book in lent bytes: the number of entries, one entry, a tally, a balance. The caller of each
 // function with a `requires` meets it.
 #![tactic(auto)]
+
 ghost use Rattle.std.specs.Prelude.{◌≡◌, ◌≤◌, length};
 ghost use Rattle.rules.specs.Words.{book_words};
 ghost use Rattle.word_bytes.specs.Coding.{needed_for};

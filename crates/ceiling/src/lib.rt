@@ -1,5 +1,6 @@
 // The sales ceiling of a settlement period (01, 'Sales ceiling').
 #![tactic(auto)]
+
 ghost use Rattle.std.specs.Prelude.{◌≡◌, [], ◌∷◌, leb};
 ghost use Rattle.numbers.specs.Tests.{every};
 ghost use Rattle.rules.specs.Entry.{most_volume};

@@ -1,5 +1,6 @@
 // A collateral case out of its figures, in the order of the C call (document 01, 'Collateral').
 #![tactic(auto)]
+
 ghost use Rattle.std.specs.Prelude.{◌≡◌, [], ◌∷◌};
 ghost use Rattle.collateral_case.specs.Cases.{month_of, case_of};
 

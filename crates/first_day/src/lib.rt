@@ -1,5 +1,6 @@
 // The first day of a month of the years 2000 to 2399 (02, T-08).
 #![tactic(auto)]
+
 ghost use Rattle.std.specs.Prelude.{◌≡◌};
 ghost use Rattle.rules.specs.FirstDay.{first_day_answer};
 

@@ -1,5 +1,6 @@
 // The month that the arguments of the program `month` name (02, T-01).
 #![tactic(auto)]
+
 ghost use Rattle.std.specs.Prelude.{◌≡◌, ◌≤◌, min};
 ghost use Rattle.calendar.specs.Calendar.{months};
 ghost use Rattle.month_argument.specs.Argument.{month_named};

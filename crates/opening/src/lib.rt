@@ -1,5 +1,6 @@
 // Opening a book in lent words, with figures and with those of an opening that names none (document 01, 'The words'; 02, T-12).
 #![tactic(auto)]
+
 ghost use Rattle.std.specs.Prelude.{◌≡◌, cond, eqb, leb, length};
 ghost use Rattle.rules.specs.Refusals.{bad_length, bad_figure};
 ghost use Rattle.rules.specs.Book.{open_cause, open_words, open_default_cause, open_default_words};

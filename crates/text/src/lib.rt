@@ -1,5 +1,6 @@
 // Internal: text into lent bytes, as much of it as fits. A caller meets each `requires`.
 #![tactic(auto)]
+
 ghost use Rattle.std.specs.Prelude.{◌≡◌, [], ◌∷◌, ◌++◌, ◌+◌, ◌≤◌, ◌<◌, length};
 ghost use Rattle.text.specs.Text.{decimal, signed, refusal, Wrote};
 

@@ -11,7 +11,6 @@ use Rattle.balance_formulas.proofs.BalanceLaws.{EachSum, each-sum, sale-within, 
 use Rattle.balance_formulas.proofs.delivery_of.Goals as goal
 use Rattle.balance_formulas.proofs.delivery_of.Goals.{After-cover_with, Start}
 
-
 -- each sum at the start; the start and the cover past the call for it
 sums : (s : Start) → EachSum s.args.t.sums
 sums s = each-sum s.args.t s.requires.sums

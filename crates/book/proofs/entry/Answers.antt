@@ -1,11 +1,8 @@
 -- `book::entry` meets its contract. Assumes nothing.
-use mathlib.Core.Path.{◌≡◌, ap, ◌∙◌}
-use mathlib.Core.Bool.{true}
-use mathlib.Core.List.{List}
-use Prim.Native.Nat.{ℕ, ◌<◌}
+use mathlib.Core.Path.{ap, ◌∙◌}
 use borrow.Author.Tests.{lt-ltb, le-ltb}
 use Rattle.rules.specs.Entry.{record_in}
-use Rattle.rules.specs.Words.{is_book, count_of}
+use Rattle.rules.specs.Words.{count_of}
 use Rattle.rules.specs.Book.{read_of, read_answer, read_cause, entry_at}
 use Rattle.entry_checks.proofs.Ladder.{passed, failed}
 use Rattle.words.proofs.BookCode.{book-long, book-entry}

@@ -8,7 +8,6 @@ use Rattle.entry_checks.proofs.Ladder.{passed, failed}
 use Rattle.book.proofs.party_day_cause.Goals as goal
 use Rattle.book.proofs.party_day_cause.Goals.{Else-not-is_book, Else-not-party_ok}
 
-
 -- what each test passed tells
 is_one : (b : Else-not-is_book) → is_book b.args.book.now ≡ true
 is_one b = passed b.is_book.ensures b.if-not-is_book.false

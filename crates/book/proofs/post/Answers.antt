@@ -3,7 +3,6 @@ use Rattle.rules.specs.Entry.{key_in}
 use Rattle.book.proofs.Calls.{post-refuses, post-long, post-room, post-legal, post-answers, post-leaves}
 use Rattle.book.proofs.post.Goals as goal
 
-
 pub returns-then-cause-ne0-clause-answer : goal.returns-then-cause-ne0-clause-answer
 returns-then-cause-ne0-clause-answer c = (post-refuses c.args.book.now (key_in c.args.key) c.args.amount c.post_cause-cause.ensures c.if-cause-ne0.true).0
 

@@ -15,7 +15,6 @@ use Rattle.entry_checks.proofs.Ladder.{passed, failed, told, told-full, told-roo
 use Rattle.words.proofs.BookCode.{book-long}
 use Rattle.book.proofs.post_cause.Goals as goal
 
-
 -- why it comes back
 module _ (ws : List ℕ) (k : Key) (a : ℕ) where
   cause-book : is_book ws ≡ false → 1 ≡ cause_of ws (post k a)

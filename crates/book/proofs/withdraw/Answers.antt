@@ -5,7 +5,6 @@ use Rattle.book.proofs.Calls.{withdraw-refuses, withdraw-place, withdraw-leaves}
 use Rattle.book.proofs.withdraw.Goals as goal
 use Rattle.book.proofs.withdraw.Goals.{Else-cause-ne0}
 
-
 -- with no cause found: what a law tells of it
 by-cause : {A : Type 0} (e : Else-cause-ne0) →
     let a = e.args in

@@ -16,4 +16,4 @@ returns-clause-bytes c =
     let bs = c.args.file.now in
     let d = c.decode-n.ensures in
     let a = c.read_file-read.ensures in c.write_back.ensures
-          ∙ change-bytes _ d (file bs) (file-adds bs) (λ i. (c.slice_known-2-1.given i).fits) c.read_file-read.auto.book a.words (ap (λ r. r.answer) a.answer)
+    ∙ change-bytes _ d (file bs) (file-adds bs) (λ i. (c.slice_known-2-1.given i).fits) c.read_file-read.auto.book a.words (ap (λ r. r.answer) a.answer)

@@ -5,7 +5,6 @@ use mir.Val.{bool_byte}
 use Rattle.rules.specs.Ceiling.{ceiling_cause, ceiling_answer}
 use Rattle.ceiling.proofs.ceiling.Goals as goal
 
-
 -- a test as the number that the code makes of it
 byte-cond : (b : Bool) → bool_byte b ≡ cond b 1 0
 byte-cond true = refl

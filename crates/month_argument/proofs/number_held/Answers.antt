@@ -1,5 +1,4 @@
 use mathlib.Core.Path.{sym, ◌∙◌}
-use Prim.Native.Nat.{◌-◌}
 use native.Mathlib.Omega.{arith}
 use Rattle.month_argument.proofs.HeldLaws.{held_next, held-end, held-most}
 use Rattle.month_argument.proofs.number_held.Goals as goal

@@ -7,7 +7,6 @@ use Rattle.numbers.specs.Causes.{unless, first_of}
 use Rattle.rules.specs.Book.{open_cause}
 use Rattle.opening.proofs.can_open.Goals as goal
 
-
 no-cause : (a b : Bool) → a && b ≡ eqb (first_of (unless a 11 ∷ unless b 12 ∷ [])) 0
 no-cause false b = refl
 no-cause true false = refl
