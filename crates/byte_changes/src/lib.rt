@@ -1,5 +1,6 @@
 // Internal: a post, a withdrawal or a control on a book in lent bytes. The caller of each function with a `requires` meets it.
 #![tactic(auto)]
+
 ghost use Rattle.std.specs.Prelude.{◌≡◌, ◌≤◌, length};
 ghost use Rattle.rules.specs.Words.{book_words};
 ghost use Rattle.rules.specs.Calls.{words_after};

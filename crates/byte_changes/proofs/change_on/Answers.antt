@@ -16,4 +16,4 @@ returns-clause-bytes c =
     let request = c.args.request in
     let d = c.decode-n.ensures in
     let a = c.act-done.ensures in c.write_back.ensures
-          ∙ change-bytes 1 d (change_of request) (adds_one request) (λ i. (c.slice_known-2-1.given i).fits) c.act-done.auto.book a.words (ap (λ r. r.answer) a.answer)
+    ∙ change-bytes 1 d (change_of request) (adds_one request) (λ i. (c.slice_known-2-1.given i).fits) c.act-done.auto.book a.words (ap (λ r. r.answer) a.answer)
