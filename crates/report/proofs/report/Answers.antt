@@ -7,12 +7,8 @@ use Rattle.report.proofs.report.Goals as goal
 
 pub returns-clause-wrote : goal.returns-clause-wrote
 unfolding report_on
-returns-clause-wrote c =
-    let w = c.report_into.ensures in
-    w
+returns-clause-wrote c = c.report_into.ensures
 
 pub returns-clause-whole : goal.returns-clause-whole
 unfolding report_on
-returns-clause-whole c =
-    let w = c.report_into.ensures in
-    λ h. wrote-whole w (le_trans (report-fits _) h)
+returns-clause-whole c = λ h. wrote-whole c.report_into.ensures (le_trans (report-fits _) h)
