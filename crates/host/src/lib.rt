@@ -1,5 +1,6 @@
 // The calls for hosts in C on numbers and byte slices (document 01, 'Day file').
 #![tactic(auto)]
+
 pub mod books;
 pub mod collaterals;
 pub mod days;

@@ -1,5 +1,6 @@
 // The calls for hosts in C on words: every call on a book and the month step, in place. A host owes 4-byte alignment.
 #![tactic(auto)]
+
 ghost use Rattle.std.specs.Prelude.{◌≡◌, length};
 ghost use Rattle.rules.specs.Entry.{key_of};
 ghost use Rattle.rules.specs.Words.{is_book};
