@@ -5,9 +5,9 @@
 mod reads;
 mod writes;
 
+use caselist::book_words::{put, same, word};
 use caselist::rows::{Row, low};
 use caselist::score::{Score, told};
-use caselist::words::{put, same, word};
 use rules::Key;
 use std::io::Stdout;
 

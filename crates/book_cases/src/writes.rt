@@ -1,6 +1,6 @@
 // What the test itself writes: the words that the list expects, rubbish, and plain entries.
+use caselist::book_words::{put, put_amount, put_key};
 use caselist::rows::{Row, low};
-use caselist::words::{put, put_amount, put_key};
 
 // A word into book and shadow alike.
 pub fn both(book: &mut [u32], shadow: &mut [u32], at: usize, w: u32) {

@@ -2,7 +2,7 @@
 // test writes itself.
 #![tactic(auto)]
 
+pub mod book_words;
 pub mod rows;
 pub mod score;
 pub mod steps;
-pub mod words;

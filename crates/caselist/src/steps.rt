@@ -1,6 +1,6 @@
 // The steps that make a book: each must be done.
+use crate::book_words::{of_kind, put, put_entry};
 use crate::rows::{Row, low};
-use crate::words::{of_kind, put, put_entry};
 use rules::Key;
 
 // Type and counterparty as the kind 3 word has them.

@@ -4,9 +4,9 @@
 
 mod writes;
 
+use caselist::book_words::same;
 use caselist::rows::{Row, low};
 use caselist::score::{Score, told};
-use caselist::words::same;
 use rules::Controlled;
 use std::io::Stdout;
 use writes::append;

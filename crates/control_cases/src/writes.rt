@@ -1,6 +1,6 @@
 // What the test itself writes: entries, marks and statuses.
+use caselist::book_words::{of_kind, put, put_entry, word};
 use caselist::rows::{Row, low};
-use caselist::words::{of_kind, put, put_entry, word};
 
 // The three words that opening leaves.
 pub fn head(words: &mut [u32], r: Row) {

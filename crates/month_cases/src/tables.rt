@@ -1,6 +1,6 @@
 // The tables of a month as a list writes them: more prices, imbalance or DM, so many times the same figure.
+use caselist::book_words::put;
 use caselist::rows::{Row, low, signed_low};
-use caselist::words::put;
 
 // How many prices, volumes of imbalance and volumes of DM there are.
 #[derive(Clone, Copy)]
