@@ -123,6 +123,7 @@ fn answer_with(book: &[u32], file: &[u8], closed: &[bool]) -> FileRead
 }
 
 // With a flag for each day: for a book with a mark only, for the table takes 36 KB of stack.
+#[inline(never)]
 fn answer_marked(book: &[u32], file: &[u8]) -> FileRead
     requires book_value { is_book book.now ≡ true }
     requires file_value { is_file file.now ≡ true }
