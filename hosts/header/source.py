@@ -54,7 +54,7 @@ def of_source(crates):
             found.add(c_type(answer) + " " + name + "(" + (", ".join(map(c_parameter, parts(given))) or "void") + ")")
     types = "".join((crates / name / "src/lib.rt").read_text() for name in ("case_figures", "rules"))
     LENGTHS.update(re.findall(r"pub const (\w+): usize = (\d+);", types))
-    for name, fields in re.findall(r"#\[repr\(C\)\]\npub struct (\w+) \{(.*?)\n\}", types, re.S):
+    for name, fields in re.findall(r"#\[repr\(C\)\]\n(?:#\[[^\n]*\]\n)*pub struct (\w+) \{(.*?)\n\}", types, re.S):
         if name in STRUCTS:
             found.add("fanzsoreb_" + STRUCTS[name] + " { " + "; ".join(map(c_field, parts(fields))) + " }")
     return found
