@@ -10,12 +10,12 @@ SOURCES := $(shell find crates -name out -prune -o \( -name '*.rt' -o -name '*.a
 all: build/libfanzsoreb.a
 
 # A static library exports the functions of its own crate alone: the library has a member for each crate `host` and `host_words`.
-# `rt lib` proves such a crate and all that it rests on.
+# `rt lib` proves such a crate and all that it rests on. Any x86-64 processor runs it.
 HOSTS := host host_words
 
 build/libfanzsoreb.a: $(SOURCES)
 	mkdir -p build
-	for crate in $(HOSTS); do (cd crates/$$crate && rt lib) || exit; done
+	for crate in $(HOSTS); do (cd crates/$$crate && rt lib --cpu x86-64) || exit; done
 	cd build && for crate in $(HOSTS); do ar x ../crates/$$crate/out/lib$$crate.a $$crate.o || exit; done
 	cd build && rm -f libfanzsoreb.a && ar rcs libfanzsoreb.a $(HOSTS:=.o) && rm $(HOSTS:=.o)
 
