@@ -1,11 +1,11 @@
 // Internal: a checked book over its words, for the crates above it.
 #![tactic(auto)]
 
-ghost use Rattle.std.specs.Prelude.{◌≡◌, true, List, ℕ, ◌+◌, ◌*◌, ◌<◌, ◌≤◌, leb, length, drop, IfOk};
-ghost use Rattle.rules.specs.Refusals.{not_a_book, answer_of};
+ghost use Rattle.std.specs.Prelude.{◌≡◌, true, List, ℕ, ◌+◌, ◌*◌, ◌<◌, ◌≤◌, leb, length, drop, false, IfOk, IfErr, OnOk, OnErr};
+ghost use Rattle.rules.specs.Refusals.{answer_of};
 ghost use Rattle.rules.specs.Entry.{key_in, record_in, entry_of, legal};
 ghost use Rattle.rules.specs.Words.{entry_ok, entries_ok, room_in, count_of, coefficient_of, tolerance_of, is_book, entries};
-ghost use Rattle.rules.specs.Book.{count_cause, is_closed, shut_to, place_of, entry_at};
+ghost use Rattle.rules.specs.Book.{is_closed, shut_to, place_of, entry_at};
 ghost use Rattle.entry_words.specs.Words.{entry_in};
 ghost use Rattle.words.specs.Parts.{kept, words_at};
 
@@ -109,8 +109,10 @@ fn is_book(words: &[u32]) -> bool
 impl<'a> Book<'a> {
     // The book that the words are, checked once a call.
     pub fn of(words: &'a [u32]) -> Result<Book<'a>, Refusal>
-        ensures answer { answer_of result ≡ count_cause words.now }
         ensures ok { IfOk result (λ book. book ≡ words.now) }
+        ensures book { OnOk result (is_book words.now ≡ true) }
+        ensures err { IfErr result (λ refusal. refusal ≡ Refusal.NotABook) }
+        ensures no_book { OnErr result (is_book words.now ≡ false) }
     {
         if !is_book(words) {
             return Err(Refusal::NotABook);
