@@ -21,3 +21,7 @@ agree m = lengths_agree (hours m) (length m.imbalance) m.rows (length m.dm)
 pub record Placed (m : Tables) : Type 0 where
   pub lengths : agree m ≡ true
   pub places : places_ok m.rows m.group ≡ true
+
+-- each answer of a closure, by the relation of its calls, is that of a test
+abbrev pub Tests : {T : Type 0} → (T → Bool → Type 0) → (T → Bool) → Type 0
+Tests {T} post ok = (x : T) (answer : Bool) → post x answer → answer ≡ ok x

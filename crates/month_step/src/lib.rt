@@ -1,13 +1,18 @@
 // The month step: a month's average price and a group's imbalance volume (01, 'Month step').
 #![tactic(auto)]
 
-pub mod ranges;
+pub mod figures;
+mod ranges;
 mod sizes;
-pub mod sums;
+mod sums;
+pub mod tables;
 
 ghost use Rattle.std.specs.Prelude.{◌≡◌};
 ghost use Rattle.rules.specs.Month.{tables_of, month_answer};
+ghost use Rattle.month_step.specs.Read.{read};
 
+use crate::figures::Figures;
+use crate::tables::MonthTables;
 use case_figures::Month;
 use rules::MonthAnswer;
 
@@ -21,7 +26,20 @@ pub fn month_step(
 ) -> MonthAnswer
     ensures { result ≡ month_answer (tables_of prices.now imbalance.now rows dm.now group) }
 {
-    let answer = ranges::cause(prices, imbalance, rows, dm, group);
+    step(&MonthTables {
+        prices,
+        imbalance,
+        rows,
+        dm,
+        group,
+    })
+}
+
+// Internal: the same over tables in words or in bytes.
+pub fn step<P: Figures<u32>, V: Figures<i32>>(m: &MonthTables<P, V>) -> MonthAnswer
+    ensures { result ≡ month_answer (read P.figures V.figures m.now) }
+{
+    let answer = ranges::cause(m);
     if answer != 0 {
         let none = Month { aosmf: 0, aedm: 0 };
         return MonthAnswer {
@@ -29,6 +47,8 @@ pub fn month_step(
             month: none,
         };
     }
-    let month = sums::figures(prices, imbalance, rows, dm, group);
-    MonthAnswer { answer, month }
+    MonthAnswer {
+        answer,
+        month: sums::figures(m),
+    }
 }
