@@ -1,5 +1,5 @@
 // Internal: figures in whole bytes, four each, little-endian, read in place.
-ghost use Rattle.std.specs.Prelude.{◌≡◌};
+ghost use Rattle.std.specs.Prelude.{◌≡◌, ◌/◌, length};
 ghost use Rattle.rules.specs.DayFile.{words_of};
 ghost use Rattle.month_bytes.specs.Tables.{signed_of, figures_of};
 
@@ -10,12 +10,21 @@ pub struct InBytes<'a> {
     pub bytes: &'a [u8],
 }
 
+impl InBytes<'_> {
+    // How many figures the bytes make.
+    fn figures(&self) -> usize
+        ensures { result ≡ length self.now.bytes.now / 4 }
+    {
+        self.bytes.len() / 4
+    }
+}
+
 // Prices: words without a sign.
 impl Figures<u32> for InBytes<'_> {
     ghost figures = { λ s. words_of s.bytes.now };
 
     fn count(&self) -> usize {
-        self.bytes.len() / 4
+        self.figures()
     }
 
     fn figure(&self, place: usize) -> u32 {
@@ -28,7 +37,7 @@ impl Figures<i32> for InBytes<'_> {
     ghost figures = { λ s. figures_of s.bytes.now };
 
     fn count(&self) -> usize {
-        self.bytes.len() / 4
+        self.figures()
     }
 
     fn figure(&self, place: usize) -> i32 {
