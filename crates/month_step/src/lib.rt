@@ -8,13 +8,14 @@ mod sums;
 pub mod tables;
 
 ghost use Rattle.std.specs.Prelude.{◌≡◌};
+ghost use Rattle.rules.specs.Answers.{month_answer_of};
 ghost use Rattle.rules.specs.Month.{tables_of, month_answer};
 ghost use Rattle.month_step.specs.Read.{read};
 
 use crate::figures::Figures;
 use crate::tables::MonthTables;
 use case_figures::Month;
-use rules::MonthAnswer;
+use rules::Refusal;
 
 // 11, 12, or AOSMF over all rows and AEDM of the group asked.
 pub fn month_step(
@@ -23,8 +24,8 @@ pub fn month_step(
     rows: u32,
     dm: &[i32],
     group: u32,
-) -> MonthAnswer
-    ensures { result ≡ month_answer (tables_of prices.now imbalance.now rows dm.now group) }
+) -> Result<Month, Refusal>
+    ensures { month_answer_of result ≡ month_answer (tables_of prices.now imbalance.now rows dm.now group) }
 {
     step(&MonthTables {
         prices,
@@ -36,19 +37,9 @@ pub fn month_step(
 }
 
 // Internal: the same over tables in words or in bytes.
-pub fn step<P: Figures<u32>, V: Figures<i32>>(m: &MonthTables<P, V>) -> MonthAnswer
-    ensures { result ≡ month_answer (read P.figures V.figures m.now) }
+pub fn step<P: Figures<u32>, V: Figures<i32>>(m: &MonthTables<P, V>) -> Result<Month, Refusal>
+    ensures { month_answer_of result ≡ month_answer (read P.figures V.figures m.now) }
 {
-    let answer = ranges::cause(m);
-    if answer != 0 {
-        let none = Month { aosmf: 0, aedm: 0 };
-        return MonthAnswer {
-            answer,
-            month: none,
-        };
-    }
-    MonthAnswer {
-        answer,
-        month: sums::figures(m),
-    }
+    ranges::check(m)?;
+    Ok(sums::figures(m))
 }

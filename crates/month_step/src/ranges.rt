@@ -1,6 +1,7 @@
 // Internal: the lengths and ranges of month tables (01, 'Month step', 'Why a call comes back').
 ghost use Rattle.std.specs.Prelude.{◌≡◌, Bool};
 ghost use Rattle.numbers.specs.Tests.{all};
+ghost use Rattle.rules.specs.Refusals.{answer_of};
 ghost use Rattle.rules.specs.Month.{volume_ok, month_cause};
 ghost use Rattle.month_step.specs.Ranges.{lengths_agree, places_ok, Tests};
 ghost use Rattle.month_step.specs.Read.{read};
@@ -8,24 +9,24 @@ ghost use Rattle.month_step.specs.Read.{read};
 use crate::figures::Figures;
 use crate::sizes;
 use crate::tables::MonthTables;
+use rules::Refusal;
 use rules::bounds::{MOST_HOURS, MOST_IMBALANCE, MOST_PRICE, MOST_ROWS};
-use rules::causes::{BAD_FIGURE, BAD_LENGTH};
 
-// The lowest cause that holds: 11, 12, or 0 for none.
-pub fn cause<P: Figures<u32>, V: Figures<i32>>(m: &MonthTables<P, V>) -> u32
-    ensures { result ≡ month_cause (read P.figures V.figures m.now) }
+// The lowest cause that holds: 11, 12, or none.
+pub fn check<P: Figures<u32>, V: Figures<i32>>(m: &MonthTables<P, V>) -> Result<(), Refusal>
+    ensures { answer_of result ≡ month_cause (read P.figures V.figures m.now) }
 {
     if !lengths_agree(m.prices.count(), m.imbalance.count(), m.rows, m.dm.count()) {
-        return BAD_LENGTH;
+        return Err(Refusal::BadLength);
     }
     if !(places_ok(m.rows, m.group)
         & each(&m.prices, |price| price <= MOST_PRICE)
         & each(&m.imbalance, volume_ok)
         & each(&m.dm, volume_ok))
     {
-        return BAD_FIGURE;
+        return Err(Refusal::BadFigure);
     }
-    0
+    Ok(())
 }
 
 // With at most 745 hours no number of rows makes the product wrap.

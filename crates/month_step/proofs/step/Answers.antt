@@ -1,13 +1,16 @@
 use mathlib.Core.Path.{sym}
-use Rattle.numbers.proofs.CauseLaws.{done-zero, done-else}
+use Rattle.std.proofs.lemmas.Result.{err_from_is_err_and}
+use Rattle.numbers.proofs.CauseLaws.{done-else}
 use Rattle.rules.specs.Month.{month_answer}
+use Rattle.rules.proofs.RefusalLaws.{number-not_zero}
 use Rattle.month_step.proofs.step.Goals as goal
 
-pub returns-then-answer-ne0 : goal.returns-then-answer-ne0
+pub returns-in_err-check : goal.returns-in_err-check
 unfolding month_answer
-returns-then-answer-ne0 g c = rw (sym c.cause-answer.ensures, done-else c.cause-answer.result _ _ c.if-answer-ne0.true)
+returns-in_err-check g c =
+    let p = err_from_is_err_and c.from_residual.result c.from_residual.ensures.1 in
+    rw (p.1, p.2, sym c.in_err-check.ensures, done-else _ _ _ (number-not_zero _))
 
 pub returns : goal.returns
 unfolding month_answer
-returns g c =
-    rw (sym c.cause-answer.ensures, done-zero c.cause-answer.result _ _ c.if-answer-ne0.false, sym c.figures.ensures)
+returns g c = rw (sym c.in_ok-check.ensures, sym c.figures.ensures)

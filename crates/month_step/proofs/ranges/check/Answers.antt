@@ -7,9 +7,9 @@ use Rattle.rules.specs.Month.{volume_ok, month_cause}
 use Rattle.month_step.specs.Ranges.{price_ok}
 use Rattle.month_step.specs.Read.{read}
 use Rattle.month_step.proofs.RangeLaws.{lengths-refused, tests-decide}
-use Rattle.month_step.proofs.ranges.cause.Given.{Over}
-use Rattle.month_step.proofs.ranges.cause.Goals as goal
-use Rattle.month_step.proofs.ranges.cause.Goals.{After-each-3}
+use Rattle.month_step.proofs.ranges.check.Given.{Over}
+use Rattle.month_step.proofs.ranges.check.Goals as goal
+use Rattle.month_step.proofs.ranges.check.Goals.{After-each-3}
 
 -- with lengths that agree, the tests of the figures decide
 decided : (g : Over) (c : After-each-3 g) (t : Bool) → c.places_ok.result && c.each.result && c.each-2.result && c.each-3.result ≡ t →
