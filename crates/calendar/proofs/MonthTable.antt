@@ -1,14 +1,18 @@
 -- The table of the source as a list, and its rule: each month starts where the one before it ends. Assumes nothing.
 use mathlib.Core.Path.{◌≡◌, refl, sym, ◌∙◌, ap}
+use mathlib.Core.Logic.{inl, inr}
 use mathlib.Core.Bool.{Bool, true, false, ◌&&◌}
 use mathlib.Core.List.{List, [], ◌∷◌}
-use Prim.Native.Nat.{ℕ, zero, suc, ◌+◌, ◌≤◌, ◌<◌, suc-le-suc}
-use native.Mathlib.Nat.{add-zero, add-suc, suc-add, zero-add, le_of_suc-le-suc, not-suc-le-zero}
-use lib.Dec.{eqb}
+use Prim.Native.Nat.{ℕ, zero, suc, ◌+◌, ◌-◌, ◌≤◌, ◌<◌, suc-le-suc, zero-le}
+use native.Mathlib.Nat.{add-zero, add-suc, suc-add, zero-add, le_of_suc-le-suc, not-suc-le-zero, eq-or-lt_of_le}
+use lib.Dec.{eqb, leb}
 use lib.ListN.{length, get_or}
-use borrow.Author.Tests.{eqb-true}
-use Rattle.calendar.specs.Calendar.{is_leap, days_in, month_length, month_start, months}
-use Rattle.calendar.proofs.MonthLaws.{start-zero, start-step}
+use borrow.Author.Tests.{eqb-true, leb-true, leb-false}
+use native.Mathlib.Omega.{arith}
+use Rattle.std.specs.List.Sorted.{IsNonDecreasingBy, IsPartitionedBy, IsPartitionPoint}
+use Rattle.std.proofs.lemmas.List.Sorted.{IsNonDecreasingBy-from_default, IsPartitionedBy-leb}
+use Rattle.calendar.specs.Calendar.{is_leap, days_in, month_length, month_start, month_of, months}
+use Rattle.calendar.proofs.MonthLaws.{start-zero, start-step, start-mono, month-unique, month-past, start-end}
 use Rattle.numbers.proofs.TestLaws.{and_split}
 
 unfoldable pub table : List ℕ
@@ -44,3 +48,33 @@ starts-at (x ∷ xs) e k h =
 pub table_at : (k : ℕ) → k ≤ months → get_or table k 0 ≡ month_start k
 unfolding table is_table follows month_length days_in is_leap
 table_at k h = starts-at table refl k (suc-le-suc h)
+
+table-length : length table ≡ suc months
+unfolding table
+table-length = refl
+
+table-rises : IsNonDecreasingBy (λ x. x) table
+table-rises =
+    IsNonDecreasingBy-from_default (λ x. x) table 0
+    (λ i j h l. omega (arith, table_at i (omega (arith, table-length)), table_at j (omega (arith, table-length)), start-mono i j h))
+
+-- what the search asks of the table, and what it finds: the number of months begun by a day
+abbrev pub begun : ℕ → ℕ → Bool
+begun day start = leb start day
+
+pub table-parted : (day : ℕ) → IsPartitionedBy (begun day) table
+table-parted day = IsPartitionedBy-leb (λ x. x) table day table-rises
+
+pub month-found : (day i : ℕ) → i ≤ length table → IsPartitionPoint (λ y. begun day y ≡ true) (λ y. begun day y ≡ false) table i → (1 ≤ i) × (i - 1 ≡ month_of day)
+month-found day zero h p =
+    let after : day < get_or table 0 0 = leb-false _ _ (p.1 0 0 zero-le (omega (arith, table-length))) in
+    absurd (omega (arith, table_at 0 zero-le, start-zero))
+month-found day (suc m) h p =
+    let one : suc m - 1 ≡ m = omega arith in
+    let from : get_or table m 0 ≤ day = leb-true _ _ (p.0 m 0 zero-le (omega arith)) in
+    elim (eq-or-lt_of_le (le_of_suc-le-suc (rw table-length at h))) [
+      | inl last ↦ (omega arith, one ∙ last ∙ sym (month-past day (omega (arith, table_at m (omega arith), start-end, ap month_start last))))
+      | inr more ↦
+          let until : day < get_or table (suc m) 0 = leb-false _ _ (p.1 (suc m) 0 (omega arith) (omega (arith, table-length))) in
+          (omega arith, one ∙ sym (month-unique m day more (omega (arith, table_at m (omega arith))) (omega (arith, table_at (suc m) more))))
+    ]

@@ -102,20 +102,8 @@ const MONTH_STARTS: [u16; 1201] = [
 pub fn month_of(day: u32) -> u32
     ensures { result ≡ month_of day }
 {
-    if day >= 36525 {
-        return 1200;
-    }
-    // borrowed once: a read of the constant itself would copy it at each step
+    // borrowed: a call on the constant itself would copy it
     let starts = &MONTH_STARTS;
-    let mut low: usize = 0;
-    let mut high: usize = 1200;
-    while low + 1 < high {
-        let middle = (low + high) / 2;
-        if (starts[middle] as u32) <= day {
-            low = middle;
-        } else {
-            high = middle;
-        }
-    }
-    low as u32
+    let begun = starts.partition_point(|start| u32::from(*start) <= day);
+    begun as u32 - 1
 }

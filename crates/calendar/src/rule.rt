@@ -6,7 +6,7 @@ ghost use Rattle.calendar.specs.Calendar.{leap_days, month_start};
 fn leap_days(years: u32) -> u64
     ensures { result ≡ leap_days years }
 {
-    let n = years as u64;
+    let n = u64::from(years);
     (n + 3) / 4 - (n + 99) / 100 + (n + 399) / 400
 }
 
@@ -15,7 +15,7 @@ fn leap_days(years: u32) -> u64
 pub fn month_start(month: u32) -> u64
     ensures { result ≡ month_start month }
 {
-    let m = month as u64;
+    let m = u64::from(month);
     let years = (m + 10) / 12;
     let months = (m + 10) % 12;
     365 * years + leap_days(years as u32) + (153 * months + 2) / 5 - 306

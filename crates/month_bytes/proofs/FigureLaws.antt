@@ -1,14 +1,15 @@
 -- Laws of signed figures out of bytes. Assumes nothing.
-use mathlib.Core.Path.{◌≡◌, ◌∙◌, ap}
+use mathlib.Core.Path.{◌≡◌, sym, ◌∙◌, ap}
 use mathlib.Core.Logic.{◌⊎◌, inl, inr}
 use mathlib.Core.List.{List}
-use Prim.Native.Nat.{ℕ, ◌+◌, ◌*◌, ◌/◌, ◌≤◌, ◌<◌}
+use Prim.Native.Nat.{ℕ, ◌*◌, ◌/◌, ◌≤◌, ◌<◌}
 use native.Mathlib.Omega.{arith}
 use lib.IntN.{ℤ, pos, negsuc, ◌-ℤ◌}
 use lib.ListN.{length, get_or, length-map, get_or-map}
 use mir.Syntax.{w32, w64}
 use mir.Val.{SFits, to_z, of_z}
 use mir.ValLaws.{to_z_pos, to_z-of_z}
+use Rattle.std.proofs.lemmas.List.{get_or_default}
 use borrow.Author.Tests.{lt-ltb, le-ltb}
 use Rattle.numbers.proofs.TestLaws.{below-or-above}
 use Rattle.numbers.proofs.SignedLaws.{sub-below}
@@ -48,6 +49,12 @@ pub length-figures : (bs : List ℕ) → length (figures_of bs) ≡ length bs / 
 unfolding figures_of
 length-figures bs = length-map (words_of bs) signed_of ∙ length-words bs
 
-pub figure-at : (bs : List ℕ) (i : ℕ) → 4 * i + 4 ≤ length bs → get_or (figures_of bs) i (pos 0) ≡ signed_of (word_at bs (4 * i))
+-- a figure as it is read in place
+pub word-here : (bs : List ℕ) (i none : ℕ) → i < length (words_of bs) → word_at bs (4 * i) ≡ get_or (words_of bs) i none
+word-here bs i none h = sym (get_or_default (words_of bs) i none 0 h ∙ word-at bs i (omega (arith, length-words bs)))
+
+pub figure-here : (bs : List ℕ) (i : ℕ) (none : ℤ) → i < length (figures_of bs) → signed_of (word_at bs (4 * i)) ≡ get_or (figures_of bs) i none
 unfolding figures_of signed_of
-figure-at bs i h = get_or-map signed_of (words_of bs) i 0 ∙ ap signed_of (word-at bs i h)
+figure-here bs i none h =
+    let here = word-at bs i (omega (arith, length-figures bs)) in
+    sym (get_or_default (figures_of bs) i none (pos 0) h ∙ get_or-map signed_of (words_of bs) i 0 ∙ ap signed_of here)

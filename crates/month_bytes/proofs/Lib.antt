@@ -1,3 +1,2 @@
 -- Laws of a month's tables out of bytes; the folders hold the proof of a function each.
 pub mod FigureLaws
-pub mod TableLaws

@@ -3,5 +3,4 @@ pub mod ScanLaws
 pub mod BitLaws
 pub mod RangeLaws
 pub mod RowLaws
-pub mod CutLaws
 pub mod TableLaws

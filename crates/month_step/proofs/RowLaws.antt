@@ -25,28 +25,25 @@ module _ (prices : List ℕ) (imbalance : List ℤ) (at n : ℕ) (r : PricedRow 
   weights-limit = sum_bound n _ 10000000 (λ h l. r.volume h)
 
 -- an hour more: both sums stay within 64 bits, and are those of the hours so far
-pub record HourPriced (prices : List ℕ) (imbalance : List ℤ) (at h weight weighted weights : ℕ) : Type 0 where
-  pub price : get_or prices h 0 ≤ 1000000
-  pub product : weight * get_or prices h 0 ≤ 10000000000000
-  pub added : weighted + weight * get_or prices h 0 ≤ 7460000000000000
+pub record HourPriced (prices : List ℕ) (imbalance : List ℤ) (at h weight price weighted weights : ℕ) : Type 0 where
+  pub added : weighted + weight * price ≤ 7460000000000000
   pub counted : weights + weight ≤ 7460000000
-  pub weighted-more : weighted + weight * get_or prices h 0 ≡ first_weighted prices imbalance at (h + 1)
+  pub weighted-more : weighted + weight * price ≡ first_weighted prices imbalance at (h + 1)
   pub weights-more : weights + weight ≡ first_weights imbalance at (h + 1)
 
-pub hour-priced : (prices : List ℕ) (imbalance : List ℤ) (at h : ℕ) {weight weighted weights : ℕ} →
-    PricedRow prices imbalance at → h < length prices → weight ≡ nat_abs (figure_at imbalance at h) →
+pub hour-priced : (prices : List ℕ) (imbalance : List ℤ) (at h : ℕ) {weight price weighted weights : ℕ} →
+    PricedRow prices imbalance at → h < length prices → weight ≡ nat_abs (figure_at imbalance at h) → price ≡ get_or prices h 0 →
     weighted ≡ first_weighted prices imbalance at h → weights ≡ first_weights imbalance at h →
-    HourPriced prices imbalance at h weight weighted weights
+    HourPriced prices imbalance at h weight price weighted weights
 unfolding first_weighted first_weights
-hour-priced prices imbalance at h {weight} r below size e f =
+hour-priced prices imbalance at h {weight} {price} r below size cost e f =
     let small : weight ≤ 10000000 = rw size (r.volume h) in
-    let product : weight * get_or prices h 0 ≤ 10000000000000 = mul-le-mul small (r.price h) in
+    let cheap : price ≤ 1000000 = rw cost (r.price h) in
+    let product : weight * price ≤ 10000000000000 = mul-le-mul small cheap in
     record {
-      price = r.price h;
-      product = product;
       added = omega (arith, r.hours, weighted-limit prices imbalance at h r);
       counted = omega (arith, r.hours, weights-limit prices imbalance at h r);
-      weighted-more = rw (e, size) (sym (sum_step h _));
+      weighted-more = rw (e, size, cost) (sym (sum_step h _));
       weights-more = rw (f, size) (sym (sum_step h _));
     }
 

@@ -10,10 +10,12 @@ use lib.Seq.{drop-cons, drop-length}
 use Rattle.numbers.specs.Tests.{all}
 
 module _ {A : Type 0} (ok : A → Bool) (xs : List A) where
-  pub all_more : (found : Bool) (i : ℕ) (d : A) → i < length xs → all ok xs ≡ found && all ok (drop i xs) →
-      all ok xs ≡ (found && ok (get_or xs i d)) && all ok (drop (i + 1) xs)
+  -- the figure at a place, read from there, is tested next
+  pub all_more : (found t : Bool) (i : ℕ) (x : A) → i < length xs → ((none : A) → x ≡ get_or xs i none) → t ≡ ok x → all ok xs ≡ found && all ok (drop i xs) →
+      all ok xs ≡ (found && t) && all ok (drop (i + 1) xs)
   unfolding all
-  all_more found i d h e = e ∙ rw (add-one, drop-cons xs i d) (sym (and_assoc found (ok (get_or xs i d)) (all ok (drop (suc i) xs))))
+  all_more found t i x h here test e =
+      e ∙ rw (add-one, drop-cons xs i x, ← here x, test) (sym (and_assoc found (ok x) (all ok (drop (suc i) xs))))
 
   pub all_end : (found : Bool) (i : ℕ) → i ≤ length xs → length xs ≤ i → all ok xs ≡ found && all ok (drop i xs) → found ≡ all ok xs
   unfolding all

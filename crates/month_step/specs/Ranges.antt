@@ -1,5 +1,5 @@
 -- The tests of month tables: their lengths, their places and a price (01, 'Month step').
-use Rattle.std.specs.Prelude.{◌≡◌, Bool, true, [], ◌∷◌, ℕ, ◌*◌, eqb, leb, ltb, length}
+use Rattle.std.specs.Prelude.{◌≡◌, Bool, [], ◌∷◌, ℕ, ◌*◌, eqb, leb, ltb, length}
 use Rattle.numbers.specs.Tests.{every}
 use Rattle.rules.specs.Entry.{within}
 use Rattle.rules.specs.Month.{Tables, hours, most_hours, most_rows, most_price}
@@ -14,10 +14,10 @@ places_ok rows group = every (within 1 most_rows rows ∷ ltb group rows ∷ [])
 abbrev pub price_ok : ℕ → Bool
 price_ok price = leb price most_price
 
--- tables whose lengths agree, with their rows and the group asked in range
+-- tables whose lengths agree
 abbrev pub agree : Tables → Bool
 agree m = lengths_agree (hours m) (length m.imbalance) m.rows (length m.dm)
 
-pub record Placed (m : Tables) : Type 0 where
-  pub lengths : agree m ≡ true
-  pub places : places_ok m.rows m.group ≡ true
+-- each answer of a closure, by the relation of its calls, is that of a test
+abbrev pub Tests : {T : Type 0} → (T → Bool → Type 0) → (T → Bool) → Type 0
+Tests {T} post ok = (x : T) (answer : Bool) → post x answer → answer ≡ ok x

@@ -5,5 +5,5 @@ ghost use Rattle.std.specs.Prelude.{◌≡◌, nat_abs};
 pub fn size(figure: i32) -> u32
     ensures { result ≡ nat_abs figure }
 {
-    numbers::magnitude(figure as i64) as u32
+    numbers::magnitude(i64::from(figure)) as u32
 }

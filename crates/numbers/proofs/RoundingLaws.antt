@@ -1,9 +1,10 @@
 -- Laws of the roundings of Rounding.antt. Assumes nothing.
 use mathlib.Core.Path.{◌≡◌, sym}
 use mathlib.Core.Logic.{inl, inr}
-use Prim.Native.Nat.{ℕ, ◌+◌, ◌*◌, ◌-◌, ◌/◌, ◌%◌, ◌≤◌, ◌<◌, zero-le}
-use native.Mathlib.Nat.{le_of_suc-le-suc, mul_left_comm, add-mul, suc-mul, div-zero, div-add-mod', mod-lt, div-mul-le_self, le-div_iff_mul-le, div-lt_iff_lt-mul, div-eq_of_lt-le, eq-zero-or-pos, le-mul_of_pos_right}
+use Prim.Native.Nat.{ℕ, ◌+◌, ◌*◌, ◌-◌, ◌/◌, ◌%◌, ◌≤◌, ◌<◌, min, zero-le}
+use native.Mathlib.Nat.{le_of_suc-le-suc, mul_left_comm, add-mul, suc-mul, div-zero, div-add-mod', mod-lt, div-mul-le_self, le-div_iff_mul-le, div-lt_iff_lt-mul, div-eq_of_lt-le, eq-zero-or-pos}
 use native.Mathlib.Omega.{arith}
+use Rattle.std.proofs.lemmas.Grind.{div_ceil_times}
 use Rattle.numbers.specs.Rounding.{half_up, round_up}
 
 div_mono : {m n : ℕ} (k : ℕ) → m ≤ n → m / k ≤ n / k
@@ -84,16 +85,6 @@ module _ (a b : ℕ) where
       (omega (arith, div-add-mod' a b, add-mul (a / b) 1 b))
       (omega (arith, div-add-mod' a b, add-mul (a / b) 1 b)))
 
-  pub round_up-exact : 0 < b → a % b ≡ 0 → a / b ≡ round_up a b
-  round_up-exact p h = sym (round_up-is a b (a / b) (omega (arith, div-add-mod' a b)) (omega (arith, div-add-mod' a b)))
-
-  pub round_up-above : 0 < b → (a % b ≡ 0 → ⊥) → a / b + 1 ≡ round_up a b
-  round_up-above p h =
-      let l : a % b < b = mod-lt a p in
-      sym (round_up-is a b (a / b + 1)
-      (omega (arith, div-add-mod' a b, add-mul (a / b) 1 b))
-      (omega (arith, div-add-mod' a b, add-mul (a / b) 1 b)))
-
-  -- a quotient with a rest can still be raised by one
-  pub quotient-below : 0 < b → (a % b ≡ 0 → ⊥) → a / b < a
-  quotient-below p h = omega (arith, div-add-mod' a b, le-mul_of_pos_right (a / b) p)
+  -- the library's `div_ceil`
+  pub round_up-ceil : 0 < b → a / b + min 1 (a % b) ≡ round_up a b
+  round_up-ceil p = let t = div_ceil_times a b p in sym (round_up-is a b (a / b + min 1 (a % b)) t.0 t.1)

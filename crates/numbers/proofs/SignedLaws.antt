@@ -1,14 +1,14 @@
 -- Laws of signed figures: differences of natural numbers, the order, the lower of two, and sums. Assumes nothing.
-use mathlib.Core.Path.{◌≡◌, refl, ap}
+use mathlib.Core.Path.{◌≡◌, refl}
 use mathlib.Core.Logic.{◌⊎◌, inl, inr}
 use mathlib.Core.Bool.{Bool, true, false, not, cond}
 use Prim.Native.Nat.{ℕ, zero, suc, ◌+◌, ◌*◌, ◌-◌, max, ◌≤◌, ◌<◌, zero-le}
 use native.Mathlib.Nat.{le_refl, le-max_left, le-max_right, suc-mul}
 use native.Mathlib.Numerals.{add-one}
 use native.Mathlib.Omega.{arith}
-use lib.Dec.{T, le→leb, ltb→lt}
+use lib.Dec.{T, le→leb}
 use lib.IntN.{ℤ, pos, negsuc, nat_abs, neg_ℤ, sub_ℕ, ◌+ℤ◌}
-use lib.Signed.{lt_z, le_z, ◌≤ℤ◌, ◌<ℤ◌, le_z_yes}
+use lib.Signed.{lt_z, ◌≤ℤ◌, le_z_yes}
 use borrow.Author.Tests.{lt-ltb, le-ltb}
 use Rattle.numbers.specs.Signed.{lower, sum_ℤ}
 use Rattle.numbers.proofs.TestLaws.{below-or-above}
@@ -35,32 +35,12 @@ sub-mono {a} {a'} {c} {c'} h k = go (below-or-above a c) (below-or-above a' c')
     go (inr p) (inl q) = absurd (omega arith)
     go (inr p) (inr q) = rw (sub-above a c p, sub-above a' c' q) (pos-le (omega arith))
 
--- equal differences
-pub sub-eq : (a b c d : ℕ) → a + d ≡ c + b → sub_ℕ a b ≡ sub_ℕ c d
-sub-eq a b c d e = go (below-or-above a b) (below-or-above c d)
-  where
-    go : (a < b) ⊎ (b ≤ a) → (c < d) ⊎ (d ≤ c) → sub_ℕ a b ≡ sub_ℕ c d
-    go (inl p) (inl q) = rw (sub-below a b p, sub-below c d q) (ap negsuc (omega arith))
-    go (inl p) (inr q) = absurd (omega arith)
-    go (inr p) (inl q) = absurd (omega arith)
-    go (inr p) (inr q) = rw (sub-above a b p, sub-above c d q) (ap pos (omega arith))
-
 pub nat_abs-sub : (a b : ℕ) → nat_abs (sub_ℕ a b) ≤ max a b
 nat_abs-sub a b = go (below-or-above a b)
   where
     go : (a < b) ⊎ (b ≤ a) → nat_abs (sub_ℕ a b) ≤ max a b
     go (inl p) = rw (sub-below a b p) (omega arith)
     go (inr p) = rw (sub-above a b p) (omega arith)
-
--- the order
-weaken' : (a b : ℤ) → T (lt_z a b) → T (le_z a b)
-weaken' (pos a) (pos b) h = le→leb a b (omega (arith, ltb→lt a b h))
-weaken' (pos a) (negsuc b) h = h
-weaken' (negsuc a) (pos b) h = tt
-weaken' (negsuc a) (negsuc b) h = le→leb b a (omega (arith, ltb→lt b a h))
-
-pub <ℤ-≤ℤ : {a b : ℤ} → a <ℤ b → a ≤ℤ b
-<ℤ-≤ℤ {a} {b} h = record { le = weaken' a b h.lt }
 
 -- the lower of two
 lower-ind : (P : ℤ → Type 0) (a b : ℤ) → (T (not (lt_z b a)) → P a) → (T (lt_z b a) → P b) → P (lower a b)

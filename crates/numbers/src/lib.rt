@@ -8,7 +8,7 @@ ghost use Rattle.numbers.specs.Rounding.{half_up, round_up};
 const LOWEST: u64 = 9223372036854775808;
 
 // The absolute value of a signed figure, by arithmetic (02, T-04). Without its sign bit a figure is itself, or 2^63 more where
-// it is below zero.
+// it is below zero. Not `unsigned_abs`, which has a branch in the library's source.
 pub fn magnitude(x: i64) -> u64
     ensures { result ≡ nat_abs x }
 {
@@ -21,7 +21,7 @@ pub fn magnitude(x: i64) -> u64
 pub fn larger(a: u64, b: u64) -> u64
     ensures { result ≡ max a b }
 {
-    if a < b { b } else { a }
+    a.max(b)
 }
 
 // a / b, halves up; 0 where b is 0.
@@ -42,5 +42,5 @@ pub fn round_up(a: u64, b: u64) -> u64
     if b == 0 {
         return 0;
     }
-    if a % b == 0 { a / b } else { a / b + 1 }
+    a.div_ceil(b)
 }

@@ -4,4 +4,4 @@ use Rattle.calendar.proofs.RuleLaws.{leap-rule}
 use Rattle.calendar.proofs.rule.leap_days.Goals as goal
 
 pub returns : goal.returns
-returns c = sym (leap-rule c.args.years)
+returns c = rw c.from-n.ensures (sym (leap-rule c.args.years))

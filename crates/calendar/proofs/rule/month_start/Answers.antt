@@ -18,4 +18,4 @@ overflow_add-result-3 c = omega (arith, few c.leap_days.ensures)
 
 pub returns : goal.returns
 unfolding by_rule
-returns c = rw c.leap_days.ensures (sym (start-by-rule c.args.month))
+returns c = rw (c.leap_days.ensures, c.from-m.ensures) (sym (start-by-rule c.args.month))

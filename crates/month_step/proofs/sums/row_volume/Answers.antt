@@ -1,35 +1,38 @@
 use mathlib.Core.Path.{refl, ◌∙◌, ap₂}
 use native.Mathlib.Omega.{arith}
 use lib.IntN.{pos, ◌-ℤ◌}
-use lib.ListN.{get_or}
 use mir.Syntax.{w64}
 use mir.Val.{to_z}
 use Rattle.numbers.specs.Signed.{sum_ℤ}
-use Rattle.month_step.specs.Rows.{figure_at, first_volume}
+use Rattle.month_step.specs.Rows.{first_volume}
 use Rattle.month_step.proofs.BitLaws.{exact32}
 use Rattle.month_step.proofs.RowLaws.{HourLess, hour-less}
+use Rattle.month_step.proofs.sums.row_volume.Given.{Over}
 use Rattle.month_step.proofs.sums.row_volume.Goals as goal
 use Rattle.month_step.proofs.sums.row_volume.Goals.{After-difference-volume}
 
--- what an hour adds, from the result of `difference`
-turn : (c : After-difference-volume) →
-    HourLess c.args.imbalance.now c.args.at c.args.dm.now c.loop-h.h (to_z w64 c.loop-h.volume-bits) c.difference-volume.result
-turn c =
-    let a = c.args in
-    let h = c.loop-h.h in
-    hour-less a.imbalance.now a.at a.dm.now h
-    c.requires
-    c.loop-h-test.true
-    c.loop-h.invariant.1
+-- what an hour adds
+turn : (g : Over) (c : After-difference-volume g) →
+    HourLess (g.V.Figures.figures c.args.imbalance.now) c.args.at (g.V.Figures.figures c.args.dm.now) c.loop-h.h
+    (to_z w64 c.loop-h.volume-bits) c.difference-volume.result
+turn g c =
+    let imbalance = c.figure in
+    let dm = c.figure-in-loop-h in
+    hour-less _ c.args.at _ c.loop-h.h
+    c.requires.beside_dm
+    (omega arith)
+    c.loop-h.invariant
     (c.difference-volume.ensures
-    ∙ ap₂ ◌-ℤ◌ (exact32 (figure_at a.imbalance.now a.at h) (omega arith)) (exact32 (get_or a.dm.now h (pos 0)) (omega arith)))
+    ∙ ap₂ ◌-ℤ◌
+    (exact32 imbalance.result imbalance.type_inv ∙ imbalance.ensures (pos 0))
+    (exact32 dm.result dm.type_inv ∙ dm.ensures (pos 0)))
 
 pub loop-h-init : goal.loop-h-init
 unfolding first_volume sum_ℤ
-loop-h-init c = (omega arith, refl)
+loop-h-init g c = refl
 
 pub overflow_add-volume : goal.overflow_add-volume
-overflow_add-volume c = (turn c).added
+overflow_add-volume g c = (turn g c).added
 
 pub loop-h-preserved : goal.loop-h-preserved
-loop-h-preserved c = (omega arith, (turn c).exact)
+loop-h-preserved g c = (turn g c).exact
