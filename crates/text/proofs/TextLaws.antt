@@ -81,6 +81,9 @@ wrote_one out at b h = record { place = omega arith; bytes = refl }
 pub puts_none : (out : Out) → Puts out [] out
 puts_none out = record { lent = refl; wrote = wrote_nothing _ _ out.within }
 
+pub puts_same : {a b : Out} {s t : List ℕ} → s ≡ t → Puts a s b → Puts a t b
+puts_same e p = rw (← e) p
+
 pub puts_then : {a b c : Out} {s t : List ℕ} → Puts a s b → Puts b t c → Puts a (s ++ t) c
 puts_then p q = record { lent = q.lent ∙ p.lent; wrote = wrote_then p.wrote q.wrote }
 
@@ -181,6 +184,12 @@ each_last f zero k = rw (add-zero k) (append-nil (f k))
 each_last f (suc n) k =
     let e : k + 1 + n ≡ k + suc n = omega arith in
     ap (λ l. f k ++ l) (each_last f n (k + 1) ∙ ap (λ i. each_from f n (k + 1) ++ f i) e) ∙ sym (append_assoc (f k) (each_from f n (k + 1)) (f (k + suc n)))
+
+pub puts_past : (f : ℕ → List ℕ) (k i : ℕ) {a b c : Out} → k ≤ i → Puts a (each_from f (i - k) k) b → Puts b (f i) c → Puts a (each_from f (i + 1 - k) k) c
+puts_past f k i h p q =
+    let e : i + 1 - k ≡ suc (i - k) = omega arith in
+    let same : k + (i - k) ≡ i = omega arith in
+    rw (e, each_last f (i - k) k, same) (puts_then p q)
 
 pub puts_next : (f : ℕ → List ℕ) (i : ℕ) {a b c : Out} → Puts a (each_from f i 0) b → Puts b (f i) c → Puts a (each_from f (i + 1) 0) c
 puts_next f i p q = rw (add-one i, each_last f i 0, zero-add i) (puts_then p q)
