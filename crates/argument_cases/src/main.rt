@@ -44,7 +44,8 @@ fn is_named(arguments: u64, rest: &[u8]) -> bool {
     }
     let month = number(rest);
     let start = space + 1;
-    month_argument::month_named(arguments as usize, &rest[start..]) as u64 == month
+    let named = month_argument::month_named(arguments as usize, &rest[start..]);
+    u64::from(named.unwrap_or(month_argument::NO_MONTH)) == month
 }
 
 fn holds(line: &[u8]) -> bool {

@@ -19,22 +19,13 @@ fn arguments(rt: &impl Env) -> usize {
     found
 }
 
+// What names no month is refused as the month after the last.
 fn month(rt: &impl Env) -> u32 {
     let mut argument = [0u8; MOST_ARGUMENT];
     let size = rt.arg(1, &mut argument).unwrap_or(0);
-    month_argument::month_named(arguments(rt), &argument[..size])
-}
-
-fn say_read(rt: &impl Eprint, failed: bool) {
-    if failed {
-        let _ = eprintln!(rt; "month: read failed");
-    }
-}
-
-fn print(rt: &(impl Print + Eprint), text: &[u8]) {
-    if rt.write_all(text).is_err() {
-        let _ = eprintln!(rt; "month: write failed");
-    }
+    month_argument::month_named(arguments(rt), &argument[..size]).unwrap_or(
+        month_argument::NO_MONTH,
+    )
 }
 
 fn main(rt: HostRuntime) {
@@ -47,7 +38,6 @@ fn main(rt: HostRuntime) {
         month(&rt),
         &mut out,
     );
-    say_read(&rt, output.failed);
     let count = output.count;
-    print(&rt, &out[..count]);
+    program_input::print(&rt, "month", &output, &out[..count]);
 }

@@ -1,3 +1,3 @@
 -- Laws of an argument's number; the folders hold the proof of a function each.
-pub mod HeldLaws
+pub mod LongerLaws
 pub mod ArgumentFigures

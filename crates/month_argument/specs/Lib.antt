@@ -1,3 +1,3 @@
 -- The month that the arguments of the program `month` name (02, T-01).
 pub mod Argument
-pub mod Held
+pub mod Longer

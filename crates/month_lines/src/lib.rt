@@ -5,6 +5,7 @@ ghost use Rattle.text.specs.Text.{IsPrefixLen, Wrote, Whole};
 ghost use Rattle.month_lines.specs.Lines.{table_text};
 
 use calendar::rule::month_start;
+use text::Out;
 
 // No text of the table is longer.
 pub const MOST_TEXT: usize = 7206;
@@ -15,13 +16,12 @@ const ENTRIES: u32 = 1201;
 fn put_lines(out: &mut [u8]) -> usize
     ensures { Wrote out.old 0 table_text result out.new }
 {
-    let mut next = 0;
-    let mut month = 0;
-    while month < ENTRIES {
-        next = text::put_number(out, next, month_start(month), b'\n');
-        month += 1;
+    let mut text = Out::new(out);
+    for month in 0..ENTRIES {
+        text.put_number(month_start(month));
+        text.put(b'\n');
     }
-    next
+    text.count()
 }
 
 // The whole table, and how many bytes it has.

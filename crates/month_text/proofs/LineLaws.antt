@@ -1,11 +1,10 @@
 -- Laws of a month report's lines: their sums one by one, and how long they are. Assumes nothing.
-use mathlib.Core.Path.{◌≡◌}
-use mathlib.Core.List.{List, [], ◌∷◌, ◌++◌}
+use mathlib.Core.Path.{◌≡◌, sym, ap, ◌∙◌}
+use mathlib.Core.List.{List, [], ◌∷◌, ◌++◌, append_assoc, append-nil}
 use Prim.Native.Nat.{ℕ, zero, suc, ◌+◌, ◌*◌, ◌≤◌, ◌<◌, zero-le}
-use native.Mathlib.Numerals.{add-one}
 use native.Mathlib.Omega.{arith}
-use lib.ListN.{length, get_or, drop, drop_of_length-le, length-append, length-take}
-use lib.Seq.{drop-cons}
+use lib.ListN.{length, get_or, take, drop, length-append, length-take}
+use Rattle.std.proofs.lemmas.List.{take_more}
 use Rattle.numbers.specs.Causes.{if_done}
 use Rattle.rules.specs.MonthReport.{line_sums}
 use Rattle.rules.specs.declared.MonthReport.{MonthReport}
@@ -13,13 +12,14 @@ use Rattle.text.specs.Text.{decimal, each_from, refusal}
 use Rattle.text.proofs.TextLaws.{decimal-most, refusal-most, each-most}
 use Rattle.month_text.specs.ReportText.{sums_text, line_text, line_at, day_text, report_text, most_text}
 
-pub sums_next : (xs : List ℕ) (i : ℕ) → i < length xs → sums_text (drop i xs) ≡ (32 ∷ decimal (get_or xs i 0)) ++ sums_text (drop (i + 1) xs)
+sums-last : (xs : List ℕ) (x : ℕ) → sums_text (xs ++ (x ∷ [])) ≡ sums_text xs ++ (32 ∷ decimal x)
 unfolding sums_text
-sums_next xs i h = rw (add-one i, drop-cons xs i 0 h)
+sums-last [] x = append-nil (32 ∷ decimal x)
+sums-last (y ∷ ys) x =
+    ap (λ l. 32 ∷ decimal y ++ l) (sums-last ys x) ∙ sym (append_assoc (32 ∷ decimal y) (sums_text ys) (32 ∷ decimal x))
 
-pub sums-end : (xs : List ℕ) (i : ℕ) → length xs ≤ i → sums_text (drop i xs) ≡ []
-unfolding sums_text
-sums-end xs i h = rw (drop_of_length-le xs h)
+pub sums_next : (xs : List ℕ) (i : ℕ) → i < length xs → sums_text (take (i + 1) xs) ≡ sums_text (take i xs) ++ (32 ∷ decimal (get_or xs i 0))
+sums_next xs i h = rw (take_more {X = ℕ} xs i 0 h) (sums-last (take i xs) (get_or xs i 0))
 
 -- a sum: a space and at most twenty digits
 sums-most : (xs : List ℕ) → length (sums_text xs) ≤ 21 * length xs

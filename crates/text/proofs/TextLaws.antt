@@ -1,19 +1,23 @@
 -- Laws of numbers as text, and of text laid over lent bytes. Assumes nothing.
 use mathlib.Core.Path.{◌≡◌, refl, sym, ◌∙◌, ap, ap₂}
-use mathlib.Core.Bool.{true, false, true≢false}
-use mathlib.Core.List.{List, [], ◌∷◌, ◌++◌}
+use mathlib.Core.List.{List, [], ◌∷◌, ◌++◌, append_assoc, append-nil}
 use mathlib.Core.Logic.{inl, inr}
 use Prim.Native.Nat.{ℕ, zero, suc, ◌+◌, ◌-◌, ◌*◌, ◌/◌, ◌%◌, ◌^◌, min, ◌≤◌, ◌<◌, zero-le}
-use native.Mathlib.Nat.{add-zero, suc-mul, pow-suc}
+use native.Mathlib.Nat.{add-zero, zero-add, suc-mul, pow-suc}
 use native.Mathlib.Numerals.{add-one}
 use native.Mathlib.Omega.{arith}
-use lib.IntN.{ℤ, pos, negsuc, nat_abs}
-use lib.ListN.{length, get_or, take, drop, set, length-append, length-set}
-use lib.Seq.{set_out, drop-cons, take_at, drop_at, length-take-le}
-use borrow.Author.Tests.{ltb-true, lt-ltb, le-ltb}
-use Rattle.numbers.specs.Signed.{is_negative}
-use Rattle.numbers.proofs.TestLaws.{below-or-above}
+use lib.IntN.{ℤ, pos, negsuc}
+use lib.ListN.{length, take, drop, set, length-append, length-set}
+use lib.Seq.{set_out, take_at, drop_at, length-take-le}
+use lib.Signed.{mag}
+use borrow.Author.Tests.{lt-ltb, le-ltb}
+use Rattle.std.specs.Borrow.{MutBor}
+use Rattle.std.specs.Fmt.{decimal as decimal-std, signed_decimal as signed-std}
+use Rattle.std.proofs.lemmas.Bool.{cases_lt}
+use Rattle.std.proofs.lemmas.Fmt.{length-decimal-le, decimal_from_appends}
+use Rattle.text.specs.declared.Out.{Out}
 use Rattle.text.specs.Text.{digits, decimal, signed, refusal, each_from, over, Wrote, Whole}
+use Rattle.text.specs.Written.{Starts, Puts}
 
 -- text after text
 pub over-append : (s t out : List ℕ) (at : ℕ) → over out at (s ++ t) ≡ over (over out at s) (at + length s) t
@@ -38,7 +42,7 @@ over-out (b ∷ s) out at h =
 -- laying goes on at the place where it stopped, or at the end
 over-from : (t out : List ℕ) (at : ℕ) → over out (min at (length out)) t ≡ over out at t
 over-from t out at =
-    elim (below-or-above at (length out)) [
+    elim (cases_lt at (length out)) [
       | inl h ↦ (let e : min at (length out) ≡ at = omega arith in rw e)
       | inr h ↦ (let e : min at (length out) ≡ length out = omega arith in rw (e, over-out t out (length out) (omega arith), over-out t out at h))
     ]
@@ -61,29 +65,30 @@ module _ {out : List ℕ} {at : ℕ} {s : List ℕ} {next : ℕ} {left : List �
         bytes = v.bytes ∙ wrote-over t;
       }
 
--- what is left to write: the whole text over the bytes as they were is the rest over the bytes as they are
-pub record Left (out₀ : List ℕ) (at₀ : ℕ) (whole : List ℕ) (out : List ℕ) (at : ℕ) (rest : List ℕ) : Type 0 where
-  pub bytes : over out₀ at₀ whole ≡ over out at rest
-  pub place : min (at₀ + length whole) (length out₀) ≡ min (at + length rest) (length out₀)
-  pub within : at ≤ length out
-  pub long : length out ≡ length out₀
+pub wrote_nothing : (out : List ℕ) (at : ℕ) → at ≤ length out → Wrote out at [] at out
+unfolding over
+wrote_nothing out at h = record { place = omega arith; bytes = refl }
 
-pub left-start : (out : List ℕ) (at : ℕ) (whole : List ℕ) → at ≤ length out → Left out at whole out at whole
-left-start out at whole h = record { bytes = refl; place = refl; within = h; long = refl }
+-- one byte
+pub wrote_none : (out : List ℕ) (at b : ℕ) → at ≤ length out → length out ≤ at → Wrote out at (b ∷ []) at out
+wrote_none out at b h l = record { place = omega arith; bytes = sym (over-out (b ∷ []) out at l) }
 
-module _ {out₀ : List ℕ} {at₀ : ℕ} {whole : List ℕ} {out : List ℕ} {at : ℕ} {rest : List ℕ} (l : Left out₀ at₀ whole out at rest) where
-  pub left_step : {s rest' : List ℕ} {next : ℕ} {out' : List ℕ} → rest ≡ s ++ rest' → Wrote out at s next out' → Left out₀ at₀ whole out' next rest'
-  left_step {s} {rest'} e w =
-      record {
-        bytes = l.bytes ∙ rw e (sym (wrote-over w rest'));
-        place = l.place ∙ rw (e, w.place, length-append s rest', l.long) (omega arith);
-        within = wrote-within w;
-        long = wrote-long w ∙ l.long;
-      }
+pub wrote_one : (out : List ℕ) (at b : ℕ) → at < length out → Wrote out at (b ∷ []) (at + 1) (set out at b)
+unfolding over
+wrote_one out at b h = record { place = omega arith; bytes = refl }
 
-  pub left_end : rest ≡ [] → Wrote out₀ at₀ whole at out
-  unfolding over
-  left_end e = record { place = sym (l.place ∙ rw e (omega (arith, l.within, l.long))); bytes = sym (l.bytes ∙ rw e) }
+-- no text, text after text, and all of it from the start
+pub puts_none : (out : Out) → Puts out [] out
+puts_none out = record { lent = refl; wrote = wrote_nothing _ _ out.within }
+
+pub puts_same : {a b : Out} {s t : List ℕ} → s ≡ t → Puts a s b → Puts a t b
+puts_same e p = rw (← e) p
+
+pub puts_then : {a b c : Out} {s t : List ℕ} → Puts a s b → Puts b t c → Puts a (s ++ t) c
+puts_then p q = record { lent = q.lent ∙ p.lent; wrote = wrote_then p.wrote q.wrote }
+
+pub puts_all : {bytes : MutBor (List ℕ)} {a b : Out} {s : List ℕ} → Starts bytes a → Puts a s b → Wrote bytes.now 0 s b.at b.bytes.now
+puts_all h p = rw (h.same, h.start) at p.wrote
 
 -- digits
 one-digit : (n x : ℕ) → x < 10 → digits (suc n) x ≡ (48 + x) ∷ []
@@ -98,59 +103,26 @@ digits_step : (n x : ℕ) → 10 ≤ x → digits (suc n) x ≡ digits n (x / 10
 unfolding digits
 digits_step n x h = rw (le-ltb x 10 h)
 
-tenth : (y x : ℕ) → x < y * 10 → x / 10 < y
-tenth y x h = omega arith
-
--- one digit more is not needed where all are there
-digits-enough : (n x : ℕ) → x < 10 ^ suc n → digits (suc n) x ≡ digits (suc (suc n)) x
-digits-enough zero x h = one-digit 0 x h ∙ sym (one-digit 1 x h)
-digits-enough (suc n) x h =
-    elim (below-or-above x 10) [
-      | inl l ↦ one-digit (suc n) x l ∙ sym (one-digit (suc (suc n)) x l)
-      | inr l ↦
-          digits_step (suc n) x l
-          ∙ ap (λ ds. ds ++ ((48 + x % 10) ∷ [])) (digits-enough n (x / 10) (tenth (10 ^ suc n) x (rw pow-suc at h)))
-          ∙ sym (digits_step (suc (suc n)) x l)
-    ]
-
-pub decimal_step : (x : ℕ) → x < 18446744073709551616 → 10 ≤ x → decimal x ≡ decimal (x / 10) ++ ((48 + x % 10) ∷ [])
+-- a number below 2⁶⁴ has the digits that the library prints
+pub decimal-printed : (x : ℕ) → x < 2 ^ 64 → decimal-std x ≡ decimal x
 unfolding decimal
-decimal_step x f h =
-    digits_step 19 x h ∙ ap (λ ds. ds ++ ((48 + x % 10) ∷ [])) (digits-enough 18 (x / 10) (omega arith))
+decimal-printed x h = sym (decimal_from_appends digits (record { one = one-digit; more = digits_step }) 20 x h (length-decimal-le 20 x (omega arith) (omega arith) h))
 
--- one byte
-pub wrote_none : (out : List ℕ) (at b : ℕ) → at ≤ length out → length out ≤ at → Wrote out at (b ∷ []) at out
-wrote_none out at b h l = record { place = omega arith; bytes = sym (over-out (b ∷ []) out at l) }
-
-pub wrote_one : (out : List ℕ) (at b : ℕ) → at < length out → Wrote out at (b ∷ []) (at + 1) (set out at b)
-unfolding over
-wrote_one out at b h = record { place = omega arith; bytes = refl }
-
-pub next-byte : (bs : List ℕ) (i : ℕ) → i < length bs → drop i bs ≡ (get_or bs i 0 ∷ []) ++ drop (i + 1) bs
-next-byte bs i h = rw (add-one i, drop-cons bs i 0 h)
-
--- a negative number has a minus sign
-pub signed-negative : (x : ℤ) → is_negative x ≡ true → signed x ≡ (45 ∷ []) ++ decimal (nat_abs x)
+pub signed-printed : (z : ℤ) → mag z < 2 ^ 63 → signed-std z ≡ signed z
 unfolding signed
-signed-negative (pos n) e = absurd (omega (arith, ltb-true n 0 e))
-signed-negative (negsuc n) e = refl
-
-pub signed-other : (x : ℤ) → is_negative x ≡ false → signed x ≡ decimal (nat_abs x)
-unfolding signed
-signed-other (pos n) e = refl
-signed-other (negsuc n) e = absurd (true≢false e)
-
-pub wrote_nothing : (out : List ℕ) (at : ℕ) → at ≤ length out → Wrote out at [] at out
-unfolding over
-wrote_nothing out at h = record { place = omega arith; bytes = refl }
+signed-printed (pos n) h = decimal-printed n (omega arith)
+signed-printed (negsuc n) h = ap (λ ds. 45 ∷ ds) (decimal-printed (suc n) (omega arith))
 
 -- how long a number's text is: one below a power of ten, any number, and any signed number
 digit-more : (n x : ℕ) → length (digits (suc n) x) ≤ length (digits n (x / 10)) + 1
 digit-more n x =
-    elim (below-or-above x 10) [
+    elim (cases_lt x 10) [
       | inl h ↦ rw (one-digit n x h) (omega arith)
       | inr h ↦ rw (digits_step n x h, length-append (digits n (x / 10)) ((48 + x % 10) ∷ [])) (omega arith)
     ]
+
+tenth : (y x : ℕ) → x < y * 10 → x / 10 < y
+tenth y x h = omega arith
 
 few-digits : (n k x : ℕ) → x < 10 ^ suc k → length (digits n x) ≤ suc k
 unfolding digits
@@ -205,14 +177,22 @@ wrote-whole {out} {s} w h =
       past = rw (e, w.bytes, over-start s out h) (drop_at s (drop (length s) out) (length s) refl);
     }
 
--- the text of one number more, up to an end
-pub each_step : (f : ℕ → List ℕ) (end k : ℕ) → k < end → each_from f (end - k) k ≡ f k ++ each_from f (end - (k + 1)) (k + 1)
+-- the text of one number more
+each_last : (f : ℕ → List ℕ) (n k : ℕ) → each_from f (suc n) k ≡ each_from f n k ++ f (k + n)
 unfolding each_from
-each_step f end k h = let e : end - k ≡ suc (end - (k + 1)) = omega arith in rw e
+each_last f zero k = rw (add-zero k) (append-nil (f k))
+each_last f (suc n) k =
+    let e : k + 1 + n ≡ k + suc n = omega arith in
+    ap (λ l. f k ++ l) (each_last f n (k + 1) ∙ ap (λ i. each_from f n (k + 1) ++ f i) e) ∙ sym (append_assoc (f k) (each_from f n (k + 1)) (f (k + suc n)))
 
-pub each-end : (f : ℕ → List ℕ) (end k : ℕ) → end ≤ k → each_from f (end - k) k ≡ []
-unfolding each_from
-each-end f end k h = let e : end - k ≡ 0 = omega arith in rw e
+pub puts_past : (f : ℕ → List ℕ) (k i : ℕ) {a b c : Out} → k ≤ i → Puts a (each_from f (i - k) k) b → Puts b (f i) c → Puts a (each_from f (i + 1 - k) k) c
+puts_past f k i h p q =
+    let e : i + 1 - k ≡ suc (i - k) = omega arith in
+    let same : k + (i - k) ≡ i = omega arith in
+    rw (e, each_last f (i - k) k, same) (puts_then p q)
+
+pub puts_next : (f : ℕ → List ℕ) (i : ℕ) {a b c : Out} → Puts a (each_from f i 0) b → Puts b (f i) c → Puts a (each_from f (i + 1) 0) c
+puts_next f i p q = rw (add-one i, each_last f i 0, zero-add i) (puts_then p q)
 
 pub each_same : (f g : ℕ → List ℕ) (n k : ℕ) → ((i : ℕ) → i < k + n → f i ≡ g i) → each_from f n k ≡ each_from g n k
 unfolding each_from

@@ -1,85 +1,69 @@
-// Internal: text into lent bytes, as much of it as fits. A caller meets each `requires`.
+// Internal: text into lent bytes, as much of it as fits.
 #![tactic(auto)]
 
-ghost use Rattle.std.specs.Prelude.{◌≡◌, [], ◌∷◌, ◌++◌, ◌+◌, ◌≤◌, ◌<◌, length};
-ghost use Rattle.text.specs.Text.{decimal, signed, refusal, Wrote};
+ghost use Rattle.std.specs.Prelude.{◌≡◌, ◌∷◌, [], ◌≤◌, length};
+ghost use Rattle.text.specs.Text.{refusal, Wrote};
 
-pub fn put(out: &mut [u8], at: usize, byte: u8) -> usize
-    requires { at ≤ length out.old }
-    ensures { Wrote out.old at (byte ∷ []) result out.new }
-{
-    if out.len() <= at {
-        return at;
+use itoa::{Buffer, Integer};
+
+// Lent bytes, and the place after what is written.
+#[derive(Drop)]
+pub struct Out<'a> {
+    bytes: &'a mut [u8],
+    at: usize,
+    ghost within: { at ≤ length bytes.now },
+}
+
+impl<'a> Out<'a> {
+    ghost use Rattle.text.specs.Written.{Starts, Puts};
+
+    // At the start of the bytes.
+    pub fn new(bytes: &'a mut [u8]) -> Out<'a>
+        ensures { Starts bytes.entry result }
+    {
+        Out { bytes, at: 0 }
     }
-    out[at] = byte;
-    at + 1
-}
 
-pub fn put_bytes(out: &mut [u8], at: usize, bytes: &[u8]) -> usize
-    requires { at ≤ length out.old }
-    ensures { Wrote out.old at bytes.now result out.new }
-{
-    let mut next = at;
-    let mut i = 0;
-    while i < bytes.len() {
-        next = put(out, next, bytes[i]);
-        i += 1;
+    // How many bytes are written.
+    pub fn count(&self) -> usize
+        ensures { result ≡ self.now.at }
+    {
+        self.at
     }
-    next
-}
 
-fn digit(x: u64) -> u8
-    requires { x < 10 }
-    ensures { result ≡ 48 + x }
-{
-    48 + (x as u8)
-}
-
-pub fn put_decimal(out: &mut [u8], at: usize, x: u64) -> usize
-    requires { at ≤ length out.old }
-    ensures { Wrote out.old at (decimal x) result out.new }
-{
-    if x < 10 {
-        return put(out, at, digit(x));
+    pub fn put(&mut self, byte: u8)
+        ensures { Puts self.old (byte ∷ []) self.new }
+    {
+        if self.at < self.bytes.len() {
+            self.bytes[self.at] = byte;
+            self.at += 1;
+        }
     }
-    let next = put_decimal(out, at, x / 10);
-    put(out, next, digit(x % 10))
-}
 
-fn put_signed(out: &mut [u8], at: usize, x: i64) -> usize
-    requires { at ≤ length out.old }
-    ensures { Wrote out.old at (signed x) result out.new }
-{
-    let size = numbers::magnitude(x);
-    if x < 0 {
-        let next = put(out, at, b'-');
-        return put_decimal(out, next, size);
+    pub fn put_bytes(&mut self, bytes: &[u8])
+        ensures { Puts self.old bytes.now self.new }
+    {
+        for byte in bytes {
+            self.put(*byte);
+        }
     }
-    put_decimal(out, at, size)
-}
 
-// A number, and what follows it.
-pub fn put_number(out: &mut [u8], at: usize, x: u64, end: u8) -> usize
-    requires { at ≤ length out.old }
-    ensures { Wrote out.old at (decimal x ++ (end ∷ [])) result out.new }
-{
-    let next = put_decimal(out, at, x);
-    put(out, next, end)
-}
-
-pub fn put_balance(out: &mut [u8], at: usize, x: i64, end: u8) -> usize
-    requires { at ≤ length out.old }
-    ensures { Wrote out.old at (signed x ++ (end ∷ [])) result out.new }
-{
-    let next = put_signed(out, at, x);
-    put(out, next, end)
+    // A number in decimal digits, a negative one after a minus sign.
+    pub fn put_number<I: Integer>(&mut self, x: I)
+        ensures { Puts self.old (I.text x) self.new }
+    {
+        let mut digits = Buffer::new();
+        self.put_bytes(digits.format(x).as_bytes());
+    }
 }
 
 // One line for a refusal, as much of it as fits.
 pub fn refused(cause: u32, out: &mut [u8]) -> usize
     ensures { Wrote out.old 0 (refusal cause) result out.new }
 {
-    let first = put_bytes(out, 0, b"refused ");
-    let second = put_decimal(out, first, cause as u64);
-    put(out, second, b'\n')
+    let mut text = Out::new(out);
+    text.put_bytes(b"refused ");
+    text.put_number(cause);
+    text.put(b'\n');
+    text.count()
 }

@@ -1,10 +1,11 @@
-use native.Mathlib.Omega.{arith}
-use Rattle.text.proofs.TextLaws.{left_step, left_end, each_step, each-end}
+use Rattle.text.specs.Text.{each_from}
+use Rattle.text.proofs.TextLaws.{puts_none, puts_next}
 use Rattle.month_text.proofs.put_days.Goals as goal
 
-pub loop-i-preserved : goal.loop-i-preserved
-loop-i-preserved c =
-    (omega arith, left_step c.loop-i.invariant.1 (each_step _ _ c.loop-i.i c.loop-i-test.true) c.put_line_at-next.ensures)
+pub loop-day-init : goal.loop-day-init
+unfolding each_from
+loop-day-init c = puts_none _
 
-pub returns : goal.returns
-returns c = left_end c.loop-i.invariant.1 (each-end _ _ c.loop-i.i c.loop-i-test.false)
+pub loop-day-preserved : goal.loop-day-preserved
+loop-day-preserved c =
+    puts_next _ c.loop-day.day c.loop-day.invariant (rw (c.from.ensures, c.from-in-loop-day.ensures) at c.put_line.ensures)

@@ -1,5 +1,7 @@
 -- `month_text::put_report` meets its contract. Assumes nothing.
+use Rattle.std.proofs.Common.{rules}
 use Rattle.numbers.proofs.CauseLaws.{done-else}
+use Rattle.text.proofs.TextLaws.{puts_then, puts_all}
 use Rattle.month_text.specs.ReportText.{report_text}
 use Rattle.month_text.proofs.put_report.Goals as goal
 
@@ -11,4 +13,5 @@ returns-then-report-ne0 c =
 pub returns : goal.returns
 unfolding report_text
 returns c =
-    rw c.if-report-ne0.false c.put_lines.ensures
+    let whole = puts_all c.new-text.ensures (puts_then c.put_days.ensures c.put_line.ensures) in
+    rw c.if-report-ne0.false (search (rules, whole))

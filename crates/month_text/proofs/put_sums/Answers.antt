@@ -1,12 +1,16 @@
-use native.Mathlib.Omega.{arith}
-use Rattle.text.proofs.TextLaws.{left_step, left_end}
-use Rattle.month_text.proofs.LineLaws.{sums_next, sums-end}
+use Rattle.std.proofs.lemmas.List.{take_all}
+use Rattle.text.proofs.TextLaws.{puts_none, puts_then}
+use Rattle.month_text.specs.ReportText.{sums_text}
+use Rattle.month_text.proofs.LineLaws.{sums_next}
 use Rattle.month_text.proofs.put_sums.Goals as goal
 
-pub loop-i-preserved : goal.loop-i-preserved
-loop-i-preserved c =
-    (omega arith, left_step c.loop-i.invariant.1 (sums_next _ c.loop-i.i c.loop-i-test.true) c.put_sum-next.ensures)
+pub loop-sum-init : goal.loop-sum-init
+unfolding sums_text
+loop-sum-init c = puts_none _
+
+pub loop-sum-preserved : goal.loop-sum-preserved
+loop-sum-preserved c =
+    rw (sums_next _ c.loop-sum.sum-index c.loop-sum-test.true) (puts_then c.loop-sum.invariant c.put_sum.ensures)
 
 pub returns : goal.returns
-returns c =
-    left_end c.loop-i.invariant.1 (sums-end _ c.loop-i.i c.loop-i-test.false)
+returns c = rw (take_all _ _ c.loop-sum-test.false) at c.loop-sum.invariant

@@ -1,12 +1,8 @@
--- `month_text::put_sums` meets its contract. The loop's invariant: what is left to write is the sums from `i` on. Assumes nothing.
-use Prim.Native.Nat.{◌≤◌, ◌-◌}
-use lib.ListN.{length, drop}
-use Rattle.text.proofs.TextLaws.{Left}
+-- `month_text::put_sums` meets its contract. The loop's invariant: the sums so far are put. Assumes nothing.
+use Rattle.std.proofs.Common.{take}
+use Rattle.text.specs.Written.{Puts}
 use Rattle.month_text.specs.ReportText.{sums_text}
 use Rattle.month_text.proofs.put_sums.Given as goal
 
-abbrev pub invariant-loop-i : goal.invariant-loop-i
-invariant-loop-i l = (l.i ≤ length l.sums) × Left l.initial.out l.at (sums_text l.sums) l.out l.next (sums_text (drop l.i l.sums))
-
-abbrev pub decreases-loop-i : goal.decreases-loop-i
-decreases-loop-i l = length l.sums - l.i
+abbrev pub invariant-loop-sum : goal.invariant-loop-sum
+invariant-loop-sum l = Puts l.initial.out (sums_text (take l.sum-index l.sums)) l.out

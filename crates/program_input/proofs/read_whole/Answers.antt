@@ -1,17 +1,16 @@
-use Rattle.std.proofs.Common.{◌≡◌, ◌+◌, ◌-◌, ◌++◌, ◌∙◌, sym, ap, subst, ℕ, List, arith, rules, take, drop, slice_range}
-use lib.Seq.{take-add}
+use Rattle.std.proofs.Common.{◌≡◌, ◌+◌, ◌++◌, ◌≤◌, ℕ, List, length, sym, subst, rules, take}
+use Rattle.std.proofs.Math.Seq.{take-append-add, length-take-le}
+use Rattle.std.proofs.lemmas.List.{take-append-le}
 use Rattle.std.specs.Io.KnownBytes.{Consumes}
 use Rattle.std.proofs.KnownBytes.{Consumes-trans}
 use Rattle.program_input.proofs.read_whole.Goals as goal
 
--- what is kept, and then what came
-joined : (a n : ℕ) (old new : List ℕ) → take a new ≡ take a old → take a old ++ slice_range new a (a + n) ≡ take (a + n) new
-joined a n old new kept =
-    let same : (a + n) - a ≡ n = omega arith in
-    ap (λ l. l ++ slice_range new a (a + n)) (sym kept) ∙ ap (λ k. take a new ++ take k (drop a new)) same ∙ sym (take-add a n new)
+-- what was read before, and what came now
+joined : (a n : ℕ) (xs ys zs : List ℕ) → a ≤ length xs → n ≤ length ys → take a xs ++ take n ys ≡ take (a + n) (take a xs ++ (ys ++ zs))
+joined a n xs ys zs h k =
+    sym (rw (length-take-le a xs h, take-append-le n ys zs k) at (take-append-add (take a xs) (ys ++ zs) n))
 
 pub loop-done-preserved : goal.loop-done-preserved
 loop-done-preserved g c =
-    let more = c.read_more-more in
-    let both = Consumes-trans _ _ _ _ _ c.loop-done.invariant.2 (more.ensures.bytes c.if-more.false) in
-    (search rules, search rules, subst (Consumes _ _) (joined _ _ _ _ more.ensures.kept) both)
+    let both = Consumes-trans _ _ _ _ _ c.loop-done.invariant.2 c.in_ok-count.ensures.bytes.0 in
+    (search rules, search rules, subst (Consumes _ _) (joined _ _ _ _ _ (search rules) (search rules)) both)

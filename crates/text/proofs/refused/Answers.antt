@@ -1,9 +1,13 @@
 -- `text::refused` meets its contract. Assumes nothing.
+use native.Mathlib.Omega.{arith}
+use Rattle.std.proofs.Common.{rules}
 use Rattle.text.specs.Text.{refusal}
-use Rattle.text.proofs.TextLaws.{wrote_then}
+use Rattle.text.proofs.TextLaws.{puts_then, puts_all, decimal-printed}
 use Rattle.text.proofs.refused.Goals as goal
 
 pub returns : goal.returns
 unfolding refusal
 returns c =
-    wrote_then (wrote_then c.put_bytes-first.ensures c.put_decimal-second.ensures) c.put.ensures
+    let number = rw (decimal-printed c.args.cause (omega arith)) at c.put_number.ensures in
+    let whole = puts_all c.new-text.ensures (puts_then (puts_then c.put_bytes.ensures number) c.put.ensures) in
+    search (rules, whole)

@@ -6,10 +6,11 @@ use Rattle.month_print.specs.MonthText.{printed}
 use Rattle.month_text.proofs.LineLaws.{refusal-fits}
 use Rattle.month_print.proofs.input.printed_from.Goals as goal
 
-pub returns-then-found-clause-whole : goal.returns-then-found-clause-whole
+pub returns-in-Ok-clause-whole : goal.returns-in-Ok-clause-whole
 unfolding printed
-returns-then-found-clause-whole g c = wrote-whole c.refused-count.ensures (le_trans (refusal-fits _) (omega arith))
+returns-in-Ok-clause-whole g c = rw c.in-Ok.is (c.month_on-count.ensures.whole (omega arith))
 
-pub returns-clause-whole : goal.returns-clause-whole
+pub returns-in-Err-clause-whole : goal.returns-in-Err-clause-whole
 unfolding printed
-returns-clause-whole g c = c.month_on-count.ensures.whole (omega arith)
+returns-in-Err-clause-whole g c =
+    rw c.in-Err.is (wrote-whole c.refused-count.ensures (le_trans (refusal-fits _) (omega arith)))
