@@ -69,11 +69,11 @@ pub fn imbalance_of(case: Case) -> u64
     if group.responsible != 1 {
         return 0;
     }
-    let answers = group.months;
-    let volume = months::lowest_volume(answers, group.used);
+    let used = months::used_months(&group.months, group.used);
+    let volume = months::lowest_volume(used);
     if volume < 0 {
-        let price = months::highest_price(answers, group.used);
-        let product = group.rk as u64 * price * numbers::magnitude(volume);
+        let price = months::highest_price(used);
+        let product = u64::from(group.rk) * price * numbers::magnitude(volume);
         numbers::round_up(product, 100000)
     } else {
         0

@@ -4,4 +4,4 @@ use Rattle.collateral.proofs.ranges.figures_ok.Goals as goal
 
 pub returns : goal.returns
 unfolding figures_ok
-returns c = rw c.months_ok.ensures
+returns c = rw (c.months_ok.ensures, c.used_months.ensures)
