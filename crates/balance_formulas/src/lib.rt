@@ -45,6 +45,7 @@ pub fn balanced(sale: u64, cover: u64, coefficient: u32, tolerance: u32) -> i64
 }
 
 // S of the day-ahead: sums 1, 3, 4 and 6 (Article 7).
+#[tactic(auto, unfolding(rules::specs::Balance::sale_side, numbers::specs::Sums::total))]
 fn ahead_sale(t: Tally) -> u64
     requires { SumsWithin t.sums }
     ensures { result ≡ sale_side day_ahead t }
@@ -54,6 +55,7 @@ fn ahead_sale(t: Tally) -> u64
 }
 
 // C without intraday purchases: sums 7, 9, 10, 13 and 14, the generation program used, and A.
+#[tactic(auto, unfolding(crate::specs::Sides::cover_with, rules::specs::Balance::acquired, numbers::specs::Sums::total))]
 fn cover_with(t: Tally, program: u64, bought: u64) -> u64
     requires fact_1 { SumsWithin t.sums }
     requires fact_2 { program ≤ most_sum }

@@ -6,6 +6,7 @@ ghost use Rattle.collateral.specs.Months.{lowest_of};
 
 use case_figures::Month;
 
+#[tactic(auto, unfolding(rules::specs::Collateral::month_ok))]
 pub fn month_ok(month: Month) -> bool
     ensures { result ≡ month_ok month }
 {

@@ -6,6 +6,7 @@ use crate::months;
 use case_figures::Case;
 
 // All figures are held to their ranges, month answers only if used.
+#[tactic(auto, unfolding(rules::specs::Collateral::figures_ok))]
 pub fn figures_ok(case: Case) -> bool
     ensures { result ≡ figures_ok case }
 {
