@@ -19,3 +19,6 @@ number-above NoRoom = omega arith
 number-above NoEntry = omega arith
 number-above BadLength = omega arith
 number-above BadFigure = omega arith
+
+pub number-not_zero : (e : Refusal) → number_of e ≡ 0 → ⊥
+number-not_zero e h = let a = number-above e in absurd (omega arith)

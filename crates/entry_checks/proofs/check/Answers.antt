@@ -1,7 +1,7 @@
--- `entry_checks::fault_of` meets its contract. Assumes nothing.
+-- `entry_checks::check` meets its contract. Assumes nothing.
 use Rattle.rules.specs.Entry.{fault, counterparty_ok}
 use Rattle.entry_checks.proofs.Ladder.{passed, failed}
-use Rattle.entry_checks.proofs.fault_of.Goals as goal
+use Rattle.entry_checks.proofs.check.Goals as goal
 
 pub returns-then-not-party_ok : goal.returns-then-not-party_ok
 unfolding fault

@@ -1,7 +1,7 @@
 -- `words::shut_to` meets its contract. Assumes nothing.
 use Rattle.rules.specs.Book.{shut_to}
 use Rattle.entry_checks.proofs.Ladder.{passed, failed}
-use Rattle.words.proofs.shut_to.Goals as goal
+use Rattle.words.proofs.Book.shut_to.Goals as goal
 
 pub returns-then-not-is_bilateral : goal.returns-then-not-is_bilateral
 unfolding shut_to

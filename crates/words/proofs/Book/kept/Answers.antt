@@ -1,11 +1,11 @@
--- `words::kept_at` meets its contract. Assumes nothing.
+-- `Book::kept` meets its contract. Assumes nothing.
 use mathlib.Core.Path.{◌≡◌, sym, ap, ◌∙◌}
 use borrow.Author.Tests.{ne_eqb}
 use Rattle.rules.specs.Entry.{Record, key_in, entry_of, key}
 use Rattle.rules.specs.Book.{shut_to}
 use Rattle.rules.specs.declared.Entry.{Entry}
 use Rattle.words.specs.Parts.{kept}
-use Rattle.words.proofs.kept_at.Goals as goal
+use Rattle.words.proofs.Book.kept.Goals as goal
 
 -- the entry read, by its figures
 module _ {e : Entry} {held : Record} (is : e ≡ entry_of held) where
@@ -20,19 +20,19 @@ module _ {e : Entry} {held : Record} (is : e ≡ entry_of held) where
 
 pub returns-then-e-ne-STANDING : goal.returns-then-e-ne-STANDING
 unfolding kept
-returns-then-e-ne-STANDING c = rw (← status-is c.read_at-e.ensures, ne_eqb _ 0 c.if-e-ne-STANDING.true)
+returns-then-e-ne-STANDING c = rw (← status-is c.entry-e.ensures.entry, ne_eqb _ 0 c.if-e-ne-STANDING.true)
 
 pub returns-then-e-eq-MARK : goal.returns-then-e-eq-MARK
 unfolding kept shut_to
 returns-then-e-eq-MARK c =
-    rw (sym (status-is c.read_at-e.ensures) ∙ c.if-e-ne-STANDING.false, sym (type-is c.read_at-e.ensures) ∙ c.if-e-eq-MARK.true)
+    rw (sym (status-is c.entry-e.ensures.entry) ∙ c.if-e-ne-STANDING.false, sym (type-is c.entry-e.ensures.entry) ∙ c.if-e-eq-MARK.true)
 
 pub returns-then-shut_to : goal.returns-then-shut_to
 unfolding kept
 returns-then-shut_to c =
-    rw (sym (status-is c.read_at-e.ensures) ∙ c.if-e-ne-STANDING.false, ← key-is c.read_at-e.ensures, sym c.shut_to.ensures ∙ c.if-shut_to.true)
+    rw (sym (status-is c.entry-e.ensures.entry) ∙ c.if-e-ne-STANDING.false, ← key-is c.entry-e.ensures.entry, sym c.shut_to.ensures ∙ c.if-shut_to.true)
 
 pub returns : goal.returns
 unfolding kept
 returns c =
-    rw (sym (status-is c.read_at-e.ensures) ∙ c.if-e-ne-STANDING.false, ← key-is c.read_at-e.ensures, sym c.shut_to.ensures ∙ c.if-shut_to.false, ne_eqb _ 21 c.if-e-eq-MARK.false)
+    rw (sym (status-is c.entry-e.ensures.entry) ∙ c.if-e-ne-STANDING.false, ← key-is c.entry-e.ensures.entry, sym c.shut_to.ensures ∙ c.if-shut_to.false, ne_eqb _ 21 c.if-e-eq-MARK.false)
