@@ -1,13 +1,12 @@
 -- `tally::scan` meets its contract. Assumes nothing.
 use mathlib.Core.Path.{◌≡◌, sym, ap, ◌∙◌}
-use mathlib.Core.Bool.{true}
-use Prim.Native.Nat.{◌<◌, ◌+◌, ◌%◌}
+use Prim.Native.Nat.{◌<◌, ◌+◌}
 use native.Mathlib.Omega.{arith}
-use Rattle.rules.specs.Words.{is_book, count_of}
+use Rattle.rules.specs.Words.{count_of}
 use Rattle.rules.specs.Book.{entry_at}
 use Rattle.rules.proofs.WordLaws.{book-facts}
 use Rattle.cells.proofs.ScanLaws.{read_at}
-use Rattle.tally.proofs.TallyLaws.{Adds, tally_to, none_yet, all_read, adds_same, bought-to, own-adds, not_own, not-summed, sold-adds, sold-none, sums-within, bought-within}
+use Rattle.tally.proofs.TallyLaws.{none_yet, all_read, adds_same, bought-to, own-adds, not_own, not-summed, sold-adds, sold-none, sums-within, bought-within}
 use Rattle.tally.proofs.scan.Goals as goal
 use Rattle.tally.proofs.scan.Goals.{Then-e-is_volume, then-today-e+then-e-is_volume, then-today-e+else-e-is_volume, else-today-e, then-today-e-2, else-today-e-2}
 
