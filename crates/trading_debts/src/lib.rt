@@ -1,8 +1,8 @@
 // Internal: the debts of the latest days that each market chooses (01, 'Collateral', Trading).
 #![tactic(auto)]
 
-ghost use Rattle.std.specs.Prelude.{◌≡◌, true, cond, ◌+◌, ◌-◌, ◌*◌, ◌≤◌, get_or};
-ghost use Rattle.rules.specs.Words.{is_book, entries};
+ghost use Rattle.std.specs.Prelude.{◌≡◌, cond, ◌+◌, ◌-◌, ◌*◌, ◌≤◌, get_or};
+ghost use Rattle.rules.specs.Words.{entries};
 ghost use Rattle.rules.specs.Collateral.{debts, money_of};
 ghost use Rattle.trading_debts.specs.Window.{most_in_cell, money_in};
 ghost use Rattle.trading_debts.specs.Walk.{chosen, left_after, owed};
@@ -10,6 +10,7 @@ ghost use Rattle.trading_debts.specs.Walk.{chosen, left_after, owed};
 mod window;
 
 use window::{WINDOW_DAYS, Window};
+use words::Book;
 
 // What a party bought and sold on a day, in one market.
 #[derive(Clone, Copy)]
@@ -104,9 +105,8 @@ fn debts_of(window: &Window, day: u32, k: u32) -> u64
     walk.debt
 }
 
-// D of a party on day g, with k days a market. A caller meets the `requires`.
-pub fn debt_of(book: &[u32], party: u32, day: u32, k: u32) -> u64
-    requires { is_book book.now ≡ true }
+// D of a party on day g, with k days a market.
+pub fn debt_of(book: &Book<'_>, party: u32, day: u32, k: u32) -> u64
     ensures { result ≡ debts (money_of party (entries book.now)) 30 day k k }
 {
     debts_of(&Window::of(book, party, day), day, k)
