@@ -1,22 +1,23 @@
--- The first n month answers of three, as the code reads them. Assumes nothing.
-use mathlib.Core.Path.{◌≡◌, refl, sym, ◌∙◌, ap}
-use mathlib.Core.Bool.{Bool, true, false, ◌&&◌, ◌||◌}
-use mathlib.Core.List.{List, [], ◌∷◌}
-use Prim.Native.Nat.{ℕ, zero, suc, ◌-◌, max, ◌≤◌, ◌<◌}
+-- The highest price and the lowest volume of month answers, as the code finds them. Assumes nothing.
+use mathlib.Core.Path.{◌≡◌, refl, ◌∙◌, ap}
+use mathlib.Core.Bool.{Bool, ◌&&◌}
+use mathlib.Core.List.{List, [], ◌∷◌, map}
+use Prim.Native.Nat.{ℕ, max, min, ◌<◌}
 use native.Mathlib.Omega.{arith}
-use lib.Dec.{ltb}
-use lib.IntN.{ℤ}
-use lib.ListN.{length, get_or, take, drop}
-use lib.Seq.{take-nil, drop-cons, get_or-take, length-take-le, drop-length}
+use lib.IntN.{ℤ, pos}
+use lib.ListN.{length, take}
 use lib.Signed.{mag}
 use mir.Syntax.{w64}
 use mir.Val.{to_z, of_z}
 use mir.ValLaws.{to_z-of_z}
-use borrow.Author.Tests.{le-ltb}
+use Rattle.std.proofs.Common.{unwrap_or}
+use Rattle.std.proofs.lemmas.Int.{ints}
+use Rattle.std.proofs.lemmas.Grind.{common_steps}
+use Rattle.std.specs.List.{fold, reduce, list_all}
+use Rattle.std.specs.Ordering.{int_cmp, min_by_ordering}
 use Rattle.numbers.specs.Tests.{all}
 use Rattle.numbers.specs.Signed.{lower}
 use Rattle.rules.specs.Collateral.{highest_price, lowest_volume}
-use Rattle.case_figures.specs.CaseFigures.{no_month}
 use Rattle.case_figures.specs.declared.Month.{Month}
 use Rattle.collateral.specs.Months.{lowest_of}
 
@@ -24,59 +25,43 @@ use Rattle.collateral.specs.Months.{lowest_of}
 pub volume-back : (z : ℤ) → mag z < 9223372036854775808 → to_z w64 (of_z w64 z) ≡ z
 volume-back z h = to_z-of_z w64 z (record { sfits = h })
 
-and-regroup : (x y z : Bool) → x && y && z ≡ x && (y && (z && true))
-and-regroup true true true = refl
-and-regroup true true false = refl
-and-regroup true false z = refl
-and-regroup false y z = refl
+-- a test of each month answer
+pub list_all-is : {A : Type 0} (ok : A → Bool) (xs : List A) → list_all ok xs ≡ all ok xs
+unfolding all
+list_all-is ok [] = refl
+list_all-is ok (x ∷ xs) = ap (λ b. ok x && b) (list_all-is ok xs)
 
--- a test of the first n of three
-module _ {A : Type 0} (ok : A → Bool) where
-  all-used : (a b c : A) (n : ℕ) → (ltb n 1 || ok a) && (ltb n 2 || ok b) && (ltb n 3 || ok c) ≡ all ok (take n (a ∷ b ∷ c ∷ []))
-  unfolding all
-  all-used a b c zero = refl
-  all-used a b c (suc zero) = and-regroup (ok a) true true
-  all-used a b c (suc (suc zero)) = and-regroup (ok a) (ok b) true
-  all-used a b c (suc (suc (suc n))) =
-      let m = suc (suc (suc n)) in
-      rw (le-ltb m 1 (omega arith), le-ltb m 2 (omega arith), le-ltb m 3 (omega arith), take-nil n) (and-regroup (ok a) (ok b) (ok c))
+-- the highest price, found from the first answer on
+highest-fold : (p : ℕ) (ms : List Month) → fold (λ a m. max a m.aosmf) p ms ≡ max p (highest_price ms)
+unfolding highest_price
+highest-fold p [] = omega arith
+highest-fold p (m ∷ ms) = highest-fold (max p m.aosmf) ms ∙ omega arith
 
-  pub three-used : (xs : List A) (d : A) (n : ℕ) {p q r : Bool} → length xs ≡ 3 →
-      p ≡ ok (get_or xs 0 d) → q ≡ ok (get_or xs 1 d) → r ≡ ok (get_or xs 2 d) →
-      (ltb n 1 || p) && (ltb n 2 || q) && (ltb n 3 || r) ≡ all ok (take n xs)
-  three-used [] d n l ep eq er = absurd (omega arith)
-  three-used (a ∷ []) d n l ep eq er = absurd (omega arith)
-  three-used (a ∷ b ∷ []) d n l ep eq er = absurd (omega arith)
-  three-used (a ∷ b ∷ c ∷ []) d n l ep eq er = rw (ep, eq, er) (all-used a b c n)
-  three-used (a ∷ b ∷ c ∷ e ∷ xs) d n l ep eq er = absurd (omega arith)
+pub highest-is : (ms : List Month) → fold (λ a m. max a m.aosmf) 0 ms ≡ highest_price ms
+highest-is ms = highest-fold 0 ms ∙ omega arith
 
--- from the last used month answer to the latest
-module _ (ms : List Month) (n : ℕ) (fits : n ≤ length ms) where
-  used-cons : (i : ℕ) → i < n → drop i (take n ms) ≡ get_or ms i no_month ∷ drop (suc i) (take n ms)
-  used-cons i h =
-      drop-cons (take n ms) i no_month (rw (length-take-le n ms fits) h)
-      ∙ ap (λ m. m ∷ drop (suc i) (take n ms)) (get_or-take n ms i no_month h)
+-- the lowest volume, found from the first answer on
+lower-assoc : (x y z : ℤ) → lower (lower x y) z ≡ lower x (lower y z)
+lower-assoc x y z = grind (arith, ints)
 
-  used-before : (k : ℕ) → 0 < k → k ≤ n → drop (k - 1) (take n ms) ≡ get_or ms (k - 1) no_month ∷ drop k (take n ms)
-  used-before k z h =
-      let s : suc (k - 1) ≡ k = omega arith in
-      used-cons (k - 1) (omega arith) ∙ ap (λ j. get_or ms (k - 1) no_month ∷ drop j (take n ms)) s
+lower-is : (x y : ℤ) → min_by_ordering (int_cmp x y) x y ≡ lower x y
+lower-is x y = grind (arith, ints)
 
-  pub none_left : drop n (take n ms) ≡ []
-  none_left = ap (λ k. drop k (take n ms)) (sym (length-take-le n ms fits)) ∙ drop-length (take n ms)
+abbrev lowest_fold : ℤ → List Month → ℤ
+lowest_fold z ms = fold (λ a b. min_by_ordering (int_cmp a b) a b) z (map (λ m. m.aedm) ms)
 
-  pub highest-more : (k : ℕ) {p q : ℕ} → 0 < k → k ≤ n → p ≡ highest_price (drop k (take n ms)) →
-      q ≡ max (get_or ms (k - 1) no_month).aosmf p → q ≡ highest_price (drop (k - 1) (take n ms))
-  unfolding highest_price
-  highest-more k z h ep eq = rw (used-before k z h, ← ep) eq
+lowest-fold : (z : ℤ) (m : Month) (ms : List Month) → lowest_fold z (m ∷ ms) ≡ lower z (lowest_volume m ms)
+unfolding lowest_volume
+lowest-fold z m [] = lower-is z m.aedm
+lowest-fold z m (k ∷ ms) =
+    ap (λ a. lowest_fold a (k ∷ ms)) (lower-is z m.aedm) ∙ lowest-fold (lower z m.aedm) k ms ∙ lower-assoc z m.aedm (lowest_volume k ms)
 
-  pub lowest-last : 0 < n → (get_or ms (n - 1) no_month).aedm ≡ lowest_of (drop (n - 1) (take n ms))
-  unfolding lowest_of lowest_volume
-  lowest-last z = rw (used-before n z (omega arith), none_left)
+pub lowest-is : (ms : List Month) → unwrap_or (reduce (λ a b. min_by_ordering (int_cmp a b) a b) (map (λ m. m.aedm) ms)) (pos 0) ≡ lowest_of ms
+unfolding lowest_of lowest_volume
+lowest-is [] = refl
+lowest-is (m ∷ []) = refl
+lowest-is (m ∷ k ∷ ms) = lowest-fold m.aedm k ms
 
-  pub lowest-more : (k : ℕ) {a b : ℤ} → 0 < k → k < n → a ≡ lowest_of (drop k (take n ms)) →
-      b ≡ lower (get_or ms (k - 1) no_month).aedm a → b ≡ lowest_of (drop (k - 1) (take n ms))
-  unfolding lowest_of lowest_volume
-  lowest-more k {a} z h ea eb =
-      let e : a ≡ lowest_volume (get_or ms k no_month) (drop (suc k) (take n ms)) = rw (used-cons k h) at ea in
-      eb ∙ ap (lower (get_or ms (k - 1) no_month).aedm) e ∙ sym (rw (used-before k z (omega arith), used-cons k h))
+-- no more than there are
+pub take-least : {A : Type 0} (xs : List A) (n : ℕ) {k : ℕ} → k ≡ min n (length xs) → take k xs ≡ take n xs
+take-least xs n e = grind (arith, common_steps)

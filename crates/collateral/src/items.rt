@@ -9,6 +9,7 @@ use rules::Collateral;
 
 const FULL_MARGIN: u64 = 20000000;
 
+#[tactic(auto, unfolding(rules::specs::Collateral::generation_margin))]
 pub fn generation_margin(capacity: u64) -> u64
     ensures { result ≡ generation_margin capacity }
 {
@@ -22,6 +23,7 @@ pub fn generation_margin(capacity: u64) -> u64
     }
 }
 
+#[tactic(auto, unfolding(rules::specs::Collateral::margin))]
 pub fn margin_of(case: Case) -> u64
     ensures { result ≡ margin case }
 {
@@ -33,6 +35,7 @@ pub fn margin_of(case: Case) -> u64
 }
 
 // k: the latest days that each market chooses.
+#[tactic(auto, unfolding(rules::specs::Collateral::trading_days))]
 pub fn trading_days(nonbusiness: u32) -> u32
     requires { nonbusiness ≤ 29 }
     ensures { result ≡ trading_days nonbusiness }
@@ -69,11 +72,11 @@ pub fn imbalance_of(case: Case) -> u64
     if group.responsible != 1 {
         return 0;
     }
-    let answers = group.months;
-    let volume = months::lowest_volume(answers, group.used);
+    let used = months::used_months(&group.months, group.used);
+    let volume = months::lowest_volume(used);
     if volume < 0 {
-        let price = months::highest_price(answers, group.used);
-        let product = group.rk as u64 * price * numbers::magnitude(volume);
+        let price = months::highest_price(used);
+        let product = u64::from(group.rk) * price * numbers::magnitude(volume);
         numbers::round_up(product, 100000)
     } else {
         0
@@ -81,6 +84,7 @@ pub fn imbalance_of(case: Case) -> u64
 }
 
 // RT, of a party responsible for its group.
+#[tactic(auto, unfolding(rules::specs::Collateral::risk))]
 pub fn risk_of(case: Case) -> u64
     ensures { result ≡ risk case }
 {
@@ -91,6 +95,7 @@ pub fn risk_of(case: Case) -> u64
     }
 }
 
+#[tactic(auto, unfolding(rules::specs::Collateral::yek))]
 pub fn yek_of(case: Case) -> u64
     requires { figures_ok case ≡ true }
     ensures { result ≡ yek case }

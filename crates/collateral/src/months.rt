@@ -1,67 +1,41 @@
-// Internal: the month answers of a case, latest first, of which the first n are used (01, 'Collateral'). A caller meets each `requires`.
-ghost use Rattle.std.specs.Prelude.{◌≡◌, ◌≤◌, take};
-ghost use Rattle.numbers.specs.Signed.{lower};
+// Internal: the month answers of a case, latest first, of which the first n are used (01, 'Collateral').
+ghost use Rattle.std.specs.Prelude.{◌≡◌, take};
 ghost use Rattle.numbers.specs.Tests.{all};
 ghost use Rattle.rules.specs.Collateral.{highest_price, month_ok};
 ghost use Rattle.collateral.specs.Months.{lowest_of};
 
 use case_figures::Month;
 
-// The lower of two volumes.
-pub fn lower_of(a: i64, b: i64) -> i64
-    ensures { result ≡ lower a b }
-{
-    if b < a { b } else { a }
-}
-
+#[tactic(auto, unfolding(rules::specs::Collateral::month_ok))]
 pub fn month_ok(month: Month) -> bool
     ensures { result ≡ month_ok month }
 {
     (month.aosmf <= 1000000) & (numbers::magnitude(month.aedm) <= 14900000000)
 }
 
-// A month answer is held to its ranges only if it is used.
-pub fn months_ok(months: [Month; 3], used: u32) -> bool
-    ensures { result ≡ all month_ok (take used months) }
+// The month answers that are used: the first n.
+pub fn used_months(months: &[Month; 3], used: u32) -> &[Month]
+    ensures { result.now ≡ take used months.now }
 {
-    let latest = months[0];
-    let second = months[1];
-    let third = months[2];
-    ((used < 1) | month_ok(latest))
-        & ((used < 2) | month_ok(second))
-        & ((used < 3) | month_ok(third))
+    &months[..months.len().min(used as usize)]
 }
 
-// The highest average price of the first n month answers.
-pub fn highest_price(months: [Month; 3], used: u32) -> u64
-    requires { used ≤ 3 }
-    ensures { result ≡ highest_price (take used months) }
+pub fn months_ok(months: &[Month]) -> bool
+    ensures { result ≡ all month_ok months.now }
 {
-    let mut price: u64 = 0;
-    let mut i = used as usize;
-    while 0 < i {
-        i -= 1;
-        let month = months[i];
-        price = numbers::larger(month.aosmf, price);
-    }
-    price
+    months.iter().all(|month| month_ok(*month))
 }
 
-// The lowest volume of the first n month answers, 0 where n is 0.
-pub fn lowest_volume(months: [Month; 3], used: u32) -> i64
-    requires { used ≤ 3 }
-    ensures { result ≡ lowest_of (take used months) }
+// The highest average price of used month answers, 0 where none is used.
+pub fn highest_price(months: &[Month]) -> u64
+    ensures { result ≡ highest_price months.now }
 {
-    if used == 0 {
-        return 0;
-    }
-    let mut i = (used as usize) - 1;
-    let last = months[i];
-    let mut volume = last.aedm;
-    while 0 < i {
-        i -= 1;
-        let month = months[i];
-        volume = lower_of(month.aedm, volume);
-    }
-    volume
+    months.iter().map(|month| month.aosmf).max().unwrap_or(0)
+}
+
+// The lowest volume of used month answers, 0 where none is used.
+pub fn lowest_volume(months: &[Month]) -> i64
+    ensures { result ≡ lowest_of months.now }
+{
+    months.iter().map(|month| month.aedm).min().unwrap_or(0)
 }

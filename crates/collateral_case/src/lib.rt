@@ -6,38 +6,10 @@ ghost use Rattle.collateral_case.specs.Cases.{month_of, case_of};
 
 use case_figures::{Asked, Case, Group, Margin, Month, Trading, Yek};
 
-fn trading_of(nonbusiness: u32, holiday: u32, defaults: u32) -> Trading
-    ensures { result ≡ record { nonbusiness = nonbusiness; holiday = holiday; defaults = defaults } }
-{
-    Trading {
-        nonbusiness,
-        holiday,
-        defaults,
-    }
-}
-
 fn month_of(aosmf: u64, aedm: i64) -> Month
     ensures { result ≡ month_of aosmf aedm }
 {
     Month { aosmf, aedm }
-}
-
-fn group_of(responsible: u32, months: [Month; 3], used: u32, rk: u32, rt: u64) -> Group
-    ensures { result ≡ record { responsible = responsible; months = months; used = used; rk = rk; rt = rt } }
-{
-    Group {
-        responsible,
-        months,
-        used,
-        rk,
-        rt,
-    }
-}
-
-fn yek_of(yt: u64, score: u32, best: u32) -> Yek
-    ensures { result ≡ record { yt = yt; score = score; best = best } }
-{
-    Yek { yt, score, best }
 }
 
 fn months_of(
@@ -57,7 +29,7 @@ fn months_of(
     ]
 }
 
-// The case of these figures; the months come latest first.
+// The case of these figures, which the C call passes one by one; the months come latest first.
 pub fn case_of(
     party: u32,
     day: u32,
@@ -82,12 +54,21 @@ pub fn case_of(
 ) -> Case
     ensures { result ≡ case_of party day licence capacity nonbusiness holiday defaults responsible aosmf1 aedm1 aosmf2 aedm2 aosmf3 aedm3 used rk rt yt score best }
 {
-    let months = months_of(aosmf1, aedm1, aosmf2, aedm2, aosmf3, aedm3);
     Case {
         asked: Asked { party, day },
         margin: Margin { licence, capacity },
-        trading: trading_of(nonbusiness, holiday, defaults),
-        group: group_of(responsible, months, used, rk, rt),
-        yek: yek_of(yt, score, best),
+        trading: Trading {
+            nonbusiness,
+            holiday,
+            defaults,
+        },
+        group: Group {
+            responsible,
+            months: months_of(aosmf1, aedm1, aosmf2, aedm2, aosmf3, aedm3),
+            used,
+            rk,
+            rt,
+        },
+        yek: Yek { yt, score, best },
     }
 }

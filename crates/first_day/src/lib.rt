@@ -2,24 +2,19 @@
 #![tactic(auto)]
 
 ghost use Rattle.std.specs.Prelude.{◌≡◌};
+ghost use Rattle.rules.specs.Answers.{first_day_answer_of};
 ghost use Rattle.rules.specs.FirstDay.{first_day_answer};
 
-use rules::FirstDayAnswer;
+use rules::Refusal;
 use rules::bounds::HORIZON_MONTHS;
-use rules::causes::BAD_FIGURE;
 
-// 12, or the first day of a month, counted from January 2000.
-pub fn first_day(month: u32) -> FirstDayAnswer
-    ensures { result ≡ first_day_answer month }
+// The first day of a month, counted from January 2000, or 12.
+#[tactic(auto, unfolding(rules::specs::FirstDay::first_day_answer, rules::specs::FirstDay::first_day_cause))]
+pub fn first_day(month: u32) -> Result<u32, Refusal>
+    ensures { first_day_answer_of result ≡ first_day_answer month }
 {
     if month >= HORIZON_MONTHS {
-        return FirstDayAnswer {
-            answer: BAD_FIGURE,
-            day: 0,
-        };
+        return Err(Refusal::BadFigure);
     }
-    FirstDayAnswer {
-        answer: 0,
-        day: calendar::rule::month_start(month) as u32,
-    }
+    Ok(calendar::rule::month_start(month) as u32)
 }

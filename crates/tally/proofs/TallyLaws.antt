@@ -3,7 +3,7 @@ use mathlib.Core.Path.{◌≡◌, refl, sym, ◌∙◌, ap}
 use mathlib.Core.Logic.{inl, inr}
 use mathlib.Core.Bool.{Bool, true, false, not, cond, ◌&&◌, true≢false, and-false}
 use mathlib.Core.List.{List, [], ◌∷◌, map}
-use Prim.Native.Nat.{ℕ, ◌+◌, ◌*◌, ◌%◌, ◌≤◌, ◌<◌, zero-le}
+use Prim.Native.Nat.{ℕ, ◌+◌, ◌*◌, ◌%◌, ◌≤◌, ◌<◌}
 use native.Mathlib.Nat.{add-zero}
 use native.Mathlib.Omega.{arith}
 use lib.Dec.{eqb, ltb}
@@ -18,11 +18,13 @@ use Rattle.rules.specs.Entry.{Key, Label, Record, key, is_volume, is_export, sta
 use Rattle.rules.specs.Words.{read_entries, is_book, entries, count_of}
 use Rattle.rules.specs.Balance.{counted, counted_to, sum_of, bought_by, tally_of, volume_types, no_tally, sum_count, sum_place}
 use Rattle.rules.specs.declared.Tally.{Tally}
-use Rattle.rules.specs.declared.TallyAnswer.{TallyAnswer}
+use Rattle.rules.specs.declared.PartyDay.{PartyDay}
 use Rattle.rules.proofs.SumOrder.{for_tests, to_tests, counts-for, counts-to}
 use Rattle.rules.proofs.SumPlaces.{sum-places, type_at, type-at, place_of, one_type}
 use Rattle.rules.proofs.Limits.{legal-amount, volume-limit, bought-sum}
-use Rattle.words.proofs.BookCode.{IsRead, is_read_lem, book-within, book-entry}
+use Rattle.entry_words.specs.declared.EntryWords.{EntryWords}
+use Rattle.words.specs.Parts.{words_at}
+use Rattle.words.proofs.BookCode.{IsRead, is_read_lem, book-entry}
 use Rattle.cells.specs.Cells.{added, add_to, add_to_each, over, blank, filled, Limited}
 use Rattle.cells.proofs.CellLaws.{same_test, goes_one, one-goes, one_apart, cell-tested, length-filled}
 use Rattle.cells.proofs.ScanLaws.{read_to, read_at, total-next, few-to, legal-to, legal-at, table_to, filled_next}
@@ -198,8 +200,6 @@ tally_to ws p d i = record { party = p; sums = filled (own_cells p d) sum_count 
 
 -- what the scan holds before entry i
 pub record SoFar (ws : List ℕ) (p d i : ℕ) (t : Tally) (bought : ℕ) : Type 0 where
-  pub within : i ≤ count_of ws
-  pub room : 3 + 5 * count_of ws ≤ length ws
   pub tally : t ≡ tally_to ws p d i
   pub bought-is : bought ≡ bought_by p d (read_to ws i)
 
@@ -208,18 +208,19 @@ module _ (ws : List ℕ) (ok : is_book ws ≡ true) where
   pub bought-to : (p d i : ℕ) → i ≤ count_of ws → bought_by p d (read_to ws i) ≤ most_sum
   bought-to p d i l = bought-sum (read_to ws i) (legal-to ws ok i l) (few-to ws ok i l) p d
 
-  pub sums-to : (p d i : ℕ) → i ≤ count_of ws → SumsWithin (tally_of p d (read_to ws i)).sums
-  sums-to p d i l j h = rw (← own-tally p d (read_to ws i)) ((table_to ws ok (own-limited p d) sum_count i l).at_most j)
+  module _ (p d i : ℕ) (l : i ≤ count_of ws) {t : Tally} {B : ℕ} (s : SoFar ws p d i t B) where
+    pub sums-within : SumsWithin t.sums
+    sums-within j h = rw s.tally ((table_to ws ok (own-limited p d) sum_count i l).at_most j)
 
-  module _ (p d i : ℕ) (l : i < count_of ws) where
-    abbrev at : ℕ
-    at = 3 + 5 * i
+    pub bought-within : B ≤ most_sum
+    bought-within = rw s.bought-is (bought-to p d i l)
+
+  module _ (p d i : ℕ) (l : i < count_of ws) (w : EntryWords) (ew : w ≡ words_at ws (3 + 5 * i)) where
+    read : IsRead w.party w.day w.figures (read_at ws i)
+    read = rw ew (is_read_lem ws (3 + 5 * i) (book-entry ws ok i l).ok)
 
     abbrev type : ℕ
-    type = get_or ws (at + 2) 0 % 256
-
-    read : IsRead (get_or ws at 0) (get_or ws (at + 1) 0) (get_or ws (at + 2) 0) (read_at ws i)
-    read = is_read_lem ws at (book-entry ws ok i l).ok
+    type = w.figures % 256
 
     tally-next : (b : Bool) → is_own p d (read_at ws i).label ≡ b → tally_to ws p d (i + 1) ≡ cond b (with_more (tally_to ws p d i) (sum_place type) (read_at ws i).amount) (tally_to ws p d i)
     unfolding added add_to_each
@@ -231,10 +232,10 @@ module _ (ws : List ℕ) (ok : is_book ws ≡ true) where
         go true e = rw (e, type-is p d read)
         go false e = rw e
 
-    pub own-adds : every (own_tests p d (get_or ws at 0) (get_or ws (at + 1) 0)) ≡ true → every (sum_tests (get_or ws (at + 2) 0)) ≡ true →
+    pub own-adds : every (own_tests p d w.party w.day) ≡ true → every (sum_tests w.figures) ≡ true →
         Adds (tally_to ws p d i) type (read_at ws i).amount (tally_to ws p d (i + 1))
     own-adds e g =
-        let own : is_own p d (read_at ws i).label ≡ true = sym (own_same p d read) ∙ and-join (every (own_tests p d (get_or ws at 0) (get_or ws (at + 1) 0))) (every (sum_tests (get_or ws (at + 2) 0))) e g in
+        let own : is_own p d (read_at ws i).label ≡ true = sym (own_same p d read) ∙ and-join (every (own_tests p d w.party w.day)) (every (sum_tests w.figures)) e g in
         let f = counts-facts d (read_at ws i).label (and_split (eqb (key (read_at ws i)).party p) _ own).1 in
         let v : is_volume type ≡ true = rw (type-is p d read) f.volume in
         let few = counted-amount d (read_at ws i) (legal-at ws ok i l) f in
@@ -245,33 +246,30 @@ module _ (ws : List ℕ) (ok : is_book ws ≡ true) where
           same = tally-next true own;
         }
 
-    pub not_own : every (own_tests p d (get_or ws at 0) (get_or ws (at + 1) 0)) ≡ false → tally_to ws p d (i + 1) ≡ tally_to ws p d i
-    not_own e = tally-next false (sym (own_same p d read) ∙ ap (λ b. b && every (sum_tests (get_or ws (at + 2) 0))) e)
+    pub not_own : every (own_tests p d w.party w.day) ≡ false → tally_to ws p d (i + 1) ≡ tally_to ws p d i
+    not_own e = tally-next false (sym (own_same p d read) ∙ ap (λ b. b && every (sum_tests w.figures)) e)
 
-    pub not-summed : every (sum_tests (get_or ws (at + 2) 0)) ≡ false → tally_to ws p d (i + 1) ≡ tally_to ws p d i
+    pub not-summed : every (sum_tests w.figures) ≡ false → tally_to ws p d (i + 1) ≡ tally_to ws p d i
     not-summed e =
-        let own : Bool = every (own_tests p d (get_or ws at 0) (get_or ws (at + 1) 0)) in
+        let own : Bool = every (own_tests p d w.party w.day) in
         tally-next false (sym (own_same p d read) ∙ ap (λ b. own && b) e ∙ and-false own)
 
-    bought-next : p ≤ 999 → bought_by p d (read_to ws (i + 1)) ≡ bought_by p d (read_to ws i) + cond (every (sold_tests p d (get_or ws (at + 1) 0) (get_or ws (at + 2) 0))) (read_at ws i).amount 0
+    bought-next : p ≤ 999 → bought_by p d (read_to ws (i + 1)) ≡ bought_by p d (read_to ws i) + cond (every (sold_tests p d w.day w.figures)) (read_at ws i).amount 0
     unfolding bought_by counted_to
     bought-next h = total-next (counted_to p d) ws i ∙ rw (to_same p d read h)
 
-    pub sold-adds : p ≤ 999 → every (sold_tests p d (get_or ws (at + 1) 0) (get_or ws (at + 2) 0)) ≡ true → bought_by p d (read_to ws (i + 1)) ≡ bought_by p d (read_to ws i) + (read_at ws i).amount
+    pub sold-adds : p ≤ 999 → every (sold_tests p d w.day w.figures) ≡ true → bought_by p d (read_to ws (i + 1)) ≡ bought_by p d (read_to ws i) + (read_at ws i).amount
     sold-adds h e = bought-next h ∙ rw e
 
-    pub sold-none : p ≤ 999 → every (sold_tests p d (get_or ws (at + 1) 0) (get_or ws (at + 2) 0)) ≡ false → bought_by p d (read_to ws (i + 1)) ≡ bought_by p d (read_to ws i)
+    pub sold-none : p ≤ 999 → every (sold_tests p d w.day w.figures) ≡ false → bought_by p d (read_to ws (i + 1)) ≡ bought_by p d (read_to ws i)
     sold-none h e = bought-next h ∙ rw e (add-zero _)
 
 -- the scan starts at no entry, and ends at the last
-pub none_yet : (ws : List ℕ) → is_book ws ≡ true → (t : Tally) (d : ℕ) → t.sums ≡ no_tally.sums → SoFar ws t.party d 0 t 0
+pub none_yet : (ws : List ℕ) (p d : ℕ) → SoFar ws p d 0 (record { party = p; sums = no_tally.sums }) 0
 unfolding filled over blank bought_by total read_entries
-none_yet ws ok t d e =
-    record { within = zero-le; room = book-within ws ok; tally = ap (λ s. record { party = t.party; sums = s }) e; bought-is = refl }
+none_yet ws p d = record { tally = refl; bought-is = refl }
 
-pub all_read : (ws : List ℕ) (p d i : ℕ) {t : Tally} {B : ℕ} → SoFar ws p d i t B → count_of ws ≤ i →
-    ◌≡◌ {A = TallyAnswer} (record { answer = 0; tally = t; bought = B }) (scanned p d (entries ws))
+pub all_read : (ws : List ℕ) (p d i : ℕ) {t : Tally} {B : ℕ} → SoFar ws p d i t B → i ≡ count_of ws →
+    ◌≡◌ {A = PartyDay} (record { tally = t; bought = B }) (scanned p d (entries ws))
 unfolding entries
-all_read ws p d i s l =
-    let e : i ≡ count_of ws = omega arith in
-    rw (s.tally, s.bought-is, e, own-tally p d (read_to ws (count_of ws)))
+all_read ws p d i s e = rw (s.tally, s.bought-is, e, own-tally p d (read_to ws (count_of ws)))

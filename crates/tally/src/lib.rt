@@ -2,16 +2,17 @@
 #![tactic(auto)]
 
 ghost use Rattle.std.specs.Prelude.{◌≡◌, ◌≤◌, true};
-ghost use Rattle.tally.specs.Scan.{scanned, none_for};
+ghost use Rattle.tally.specs.Scan.{scanned};
 ghost use Rattle.rules.specs.Entry.{last_party, last_day, is_volume};
-ghost use Rattle.rules.specs.Words.{is_book, entries};
-ghost use Rattle.rules.specs.Balance.{no_tally, sum_place};
+ghost use Rattle.rules.specs.Words.{entries, coefficient_of, tolerance_of};
+ghost use Rattle.rules.specs.Balance.{sum_place};
 
+use balance_formulas::{Figures, Tolerances};
 use rules::layout::{
-    BILATERAL, DAY_WORD, ENTRY_WORDS, FIGURES_WORD, HEAD_WORDS, PARTY_WORD, TYPES, UPDATED_PROGRAM,
-    WITHDRAWN_WORD,
+    BILATERAL, DAY_WORD, FIGURES_WORD, PARTY_WORD, TYPES, UPDATED_PROGRAM, WITHDRAWN_WORD,
 };
-use rules::{SUMS, Tally, TallyAnswer};
+use rules::{PartyDay, SUMS, Tally};
+use words::Book;
 
 // The kind 3 word of a standing type 6 entry with counterparty 0: an export. Each counterparty adds TYPES.
 const EXPORT: u32 = FIGURES_WORD + BILATERAL;
@@ -22,73 +23,51 @@ pub fn sum_place(entry_type: u32) -> usize
     ensures { result ≡ sum_place entry_type }
 {
     if entry_type == UPDATED_PROGRAM {
-        return SUMS - 1;
+        SUMS - 1
+    } else {
+        (entry_type - 1) as usize
     }
-    (entry_type - 1) as usize
 }
 
-// One pass over a checked book for the tally and B. The tally comes by value and goes back by value; each amount is added
-// where its sum lies. Whole words are compared: a word of a book has its kind and no unnamed bit.
-fn tallied(mut t: Tally, book: &[u32], day: u32) -> TallyAnswer
-    requires fact_1 { is_book book.now ≡ true }
-    requires fact_2 { t.party ≤ last_party }
-    requires fact_3 { day ≤ last_day }
-    requires fact_4 { t.sums ≡ no_tally.sums }
-    ensures { result ≡ scanned t.party day (entries book.now) }
+// The tally and B of a party's day, with the book's R and TM, by one pass over its entries. Whole words are compared: a word
+// of a book has its kind and no unnamed bit.
+pub fn scan(book: &Book<'_>, party: u32, day: u32) -> Figures
+    requires party_in_range { party ≤ last_party }
+    requires day_in_range { day ≤ last_day }
+    ensures day { result.day ≡ scanned party day (entries book.now) }
+    ensures coefficient { result.tolerances.coefficient ≡ coefficient_of book.now }
+    ensures tolerance { result.tolerances.tolerance ≡ tolerance_of book.now }
 {
-    let count = words::count_of(book) as usize;
-    let own = PARTY_WORD + t.party;
+    let own = PARTY_WORD + party;
     let dated = DAY_WORD + day;
-    let sold = EXPORT + TYPES * t.party;
-    let mut bought: u64 = 0;
-    let mut i: usize = 0;
-    while i < count {
-        let at = HEAD_WORDS + ENTRY_WORDS * i;
-        let today = book[at + 1] == dated;
-        let figures = book[at + 2];
-        if today & (book[at] == own) {
-            if (figures < WITHDRAWN_WORD)
-                & entry_checks::is_volume(figures % TYPES)
-                & !(figures == EXPORT)
+    let sold = EXPORT + TYPES * party;
+    let mut tally = Tally {
+        party,
+        sums: [0; SUMS],
+    };
+    let mut bought = 0u64;
+    for i in 0..book.count() {
+        let e = book.entry_words(i);
+        let today = e.day == dated;
+        if today & (e.party == own) {
+            if (e.figures < WITHDRAWN_WORD)
+                & entry_checks::is_volume(e.figures % TYPES)
+                & !(e.figures == EXPORT)
             {
-                let place = sum_place(figures % TYPES);
-                t.sums[place] = t.sums[place] + words::amount_at(book, at);
+                let place = sum_place(e.figures % TYPES);
+                tally.sums[place] += e.amount();
             }
         }
-        if today & (figures == sold) {
-            bought += words::amount_at(book, at);
+        if today & (e.figures == sold) {
+            bought += e.amount();
         }
-        i += 1;
     }
-    TallyAnswer {
-        answer: 0,
-        tally: t,
-        bought,
-    }
-}
-
-// The tally and B of a party's day.
-pub fn scan(book: &[u32], party: u32, day: u32) -> TallyAnswer
-    requires { (is_book book.now ≡ true) × ((party ≤ last_party) × (day ≤ last_day)) }
-    ensures { result ≡ scanned party day (entries book.now) }
-{
-    let t = Tally {
-        party,
-        sums: [0u64; SUMS],
+    let tolerances = Tolerances {
+        coefficient: book.coefficient(),
+        tolerance: book.tolerance(),
     };
-    tallied(t, book, day)
-}
-
-// The tally of a refusal: each figure is zero.
-pub fn no_tally(cause: u32) -> TallyAnswer
-    ensures { result ≡ none_for cause }
-{
-    TallyAnswer {
-        answer: cause,
-        tally: Tally {
-            party: 0,
-            sums: [0u64; SUMS],
-        },
-        bought: 0,
+    Figures {
+        day: PartyDay { tally, bought },
+        tolerances,
     }
 }

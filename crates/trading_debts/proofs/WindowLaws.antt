@@ -76,6 +76,9 @@ module _ {p : ℕ} (g : ℕ) {l : Label} {t d s : ℕ} {m : Bool} (r : Read p l 
   pub figures-inside : counts g s m d ≡ true → (17 ≤ t) × (t ≤ 20) × (d < g) × (g ≤ d + 30)
   figures-inside f = let i = inside p g l (sym counts-inside ∙ f) in omega arith
 
+  pub cell-below : counts g s m d ≡ true → 4 * (g - 1 - d) + (t - 17) < 120
+  cell-below f = let i = figures-inside f in omega arith
+
   pub cell-is : counts g s m d ≡ true → 4 * (g - 1 - d) + (t - 17) ≡ cell_of p g l
   cell-is f = rw (r.day, r.type) (sym (cell-inside p g l (sym counts-inside ∙ f)))
 

@@ -9,7 +9,6 @@ use Rattle.trading_debts.proofs.debt_of.Goals as goal
 pub returns : goal.returns
 returns c =
     let a = c.args in
-    let w = c.window_of-cells in
     c.debts_of.ensures
-    ∙ ap (λ x. debts (money_in x a.day) 30 a.day a.k a.k) w.ensures.0
+    ∙ ap (λ x. debts (money_in x a.day) 30 a.day a.k a.k) c.of.ensures
     ∙ window-debts a.party a.day a.k (entries a.book.now)

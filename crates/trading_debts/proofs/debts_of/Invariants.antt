@@ -1,4 +1,4 @@
--- `trading_debts::debts_of` meets its contract. Assumes nothing.
+-- `trading_debts::debts_of` meets its contract. The loop's invariant: the debts so far and those still to come. Assumes nothing.
 use mathlib.Core.Path.{◌≡◌}
 use Prim.Native.Nat.{◌+◌, ◌-◌, ◌*◌, ◌≤◌}
 use Rattle.rules.specs.Collateral.{debts}
@@ -7,9 +7,5 @@ use Rattle.trading_debts.proofs.debts_of.Given as goal
 
 abbrev pub invariant-loop-i : goal.invariant-loop-i
 invariant-loop-i l =
-    (l.i ≤ l.days)
-    × (l.walk.debt ≤ l.i * (2 * most_in_cell))
-    × (debts (money_in l.cells l.day) 30 l.day l.k l.k ≡ l.walk.debt + debts (money_in l.cells l.day) (30 - l.i) (l.day - l.i) l.walk.ahead l.walk.intraday)
-
-abbrev pub decreases-loop-i : goal.decreases-loop-i
-decreases-loop-i l = l.days - l.i
+    (l.walk.debt ≤ l.i * (2 * most_in_cell))
+    × (debts (money_in l.window.cells l.day) 30 l.day l.k l.k ≡ l.walk.debt + debts (money_in l.window.cells l.day) (30 - l.i) (l.day - l.i) l.walk.ahead l.walk.intraday)

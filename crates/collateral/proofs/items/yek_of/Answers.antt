@@ -12,6 +12,3 @@ pub overflow_mul-case : goal.overflow_mul-case
 overflow_mul-case c =
     record { fits = rw c.larger-share.ensures (omega (arith, yek-product c.args.case (case-ranges c.args.case c.requires))) }
 
-pub returns : goal.returns
-unfolding yek
-returns c = c.round_up.ensures ∙ rw c.larger-share.ensures

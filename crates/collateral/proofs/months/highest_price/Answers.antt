@@ -1,20 +1,15 @@
 -- `collateral::months::highest_price` meets its contract. Assumes nothing.
-use mathlib.Core.Path.{◌≡◌, sym}
-use native.Mathlib.Omega.{arith}
-use lib.ListN.{length}
-use Rattle.rules.specs.Collateral.{highest_price}
-use Rattle.collateral.proofs.UsedMonths.{none_left, highest-more}
-use borrow.Author.Rules.{rules}
+use Rattle.std.proofs.Common.{unwrap_or, ap, ◌∙◌, rules, tests}
+use Rattle.std.proofs.lemmas.Iterator.{YieldsList-from_slice, YieldsList-from_map}
+use Rattle.std.proofs.lemmas.Iterator.Consumers.{reduce_from_yields_List}
+use Rattle.std.proofs.lemmas.List.Folds.{max_of_map}
+use Rattle.collateral.proofs.UsedMonths.{highest-is}
 use Rattle.collateral.proofs.months.highest_price.Goals as goal
 
-pub loop-i-init : goal.loop-i-init
-unfolding highest_price
-loop-i-init c =
-    let three : length c.args.months ≡ 3 = search rules in
-    (search rules, sym (rw (none_left c.args.months c.args.used (omega arith))))
-
-pub loop-i-preserved : goal.loop-i-preserved
-loop-i-preserved c =
-    let l = c.loop-i in
-    let three : length c.args.months ≡ 3 = search rules in
-    (search rules, highest-more c.args.months c.args.used (omega arith) l.i c.loop-i-test.true l.invariant.0 l.invariant.1 c.larger-price.ensures)
+pub returns : goal.returns
+returns c =
+    let ms = c.args.months.now in
+    c.unwrap_or.ensures
+    ∙ ap (λ o. unwrap_or o 0) (reduce_from_yields_List _ c.map.result _ c.max.ensures.ran (YieldsList-from_map _ (λ m. m.aosmf) (YieldsList-from_slice ms cc) c.map.ensures.closure (λ x b q k. search (rules, tests))))
+    ∙ max_of_map (λ m. m.aosmf) ms
+    ∙ highest-is ms

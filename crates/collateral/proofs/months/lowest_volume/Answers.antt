@@ -1,32 +1,16 @@
 -- `collateral::months::lowest_volume` meets its contract. Assumes nothing.
-use mathlib.Core.Path.{◌≡◌, ◌∙◌}
-use Prim.Native.Nat.{◌-◌}
-use native.Mathlib.Omega.{arith}
-use lib.ListN.{length, get_or}
-use borrow.Author.Rules.{rules}
-use Rattle.case_figures.specs.CaseFigures.{no_month}
-use Rattle.collateral.specs.Months.{lowest_of}
-use Rattle.collateral.proofs.UsedMonths.{volume-back, lowest-last, lowest-more}
+use mathlib.Core.Path.{ap, ◌∙◌}
+use lib.IntN.{pos}
+use Rattle.std.proofs.Common.{unwrap_or, rules, tests}
+use Rattle.std.proofs.lemmas.Iterator.{YieldsList-from_slice, YieldsList-from_map}
+use Rattle.std.proofs.lemmas.Iterator.Consumers.{reduce_from_yields_List}
+use Rattle.collateral.proofs.UsedMonths.{volume-back, lowest-is}
 use Rattle.collateral.proofs.months.lowest_volume.Goals as goal
 
-pub returns-then-used-eq0 : goal.returns-then-used-eq0
-unfolding lowest_of
-returns-then-used-eq0 c = rw c.if-used-eq0.true
-
-pub loop-i-init : goal.loop-i-init
-loop-i-init c =
-    let ms = c.args.months in
-    let n = c.args.used in
-    let three : length ms ≡ 3 = search rules in
-    (omega arith, volume-back _ (search rules) ∙ lowest-last ms n (omega arith) (omega arith))
-
-pub loop-i-preserved : goal.loop-i-preserved
-loop-i-preserved c =
-    let ms = c.args.months in
-    let l = c.loop-i in
-    let three : length ms ≡ 3 = search rules in (
-      omega arith,
-      volume-back _ (search rules)
-          ∙ lowest-more ms c.args.used (omega arith) l.i c.loop-i-test.true l.invariant.0 l.invariant.1
-          (rw (volume-back (get_or ms (l.i - 1) no_month).aedm (search rules)) at c.lower_of-volume.ensures),
-    )
+pub returns : goal.returns
+returns c =
+    let ms = c.args.months.now in
+    volume-back _ c.unwrap_or.type_inv
+    ∙ c.unwrap_or.ensures
+    ∙ ap (λ o. unwrap_or o (pos 0)) (reduce_from_yields_List _ c.map.result _ c.min.ensures.ran (YieldsList-from_map _ (λ m. m.aedm) (YieldsList-from_slice ms cc) c.map.ensures.closure (λ x b q k. search (rules, tests))))
+    ∙ lowest-is ms
