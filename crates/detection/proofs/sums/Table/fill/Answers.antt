@@ -2,7 +2,7 @@ use Rattle.cells.specs.Cells.{filled}
 use Rattle.cells.proofs.ScanLaws.{scan, scan-below}
 use Rattle.detection.specs.Tables.{table_cells, table_of}
 use Rattle.detection.proofs.TableLaws.{day-limited}
-use Rattle.detection.proofs.sums.fill.Goals as goal
+use Rattle.detection.proofs.sums.Table.fill.Goals as goal
 
 pub count_of-count-requires : goal.count_of-count-requires
 count_of-count-requires c = search scan
