@@ -19,11 +19,12 @@ use Rattle.calendar.proofs.MonthLaws.{start-mono, start-end, InMonth, month-uniq
 use Rattle.rules.specs.Entry.{Record, key, legal, fault, status_ok, mark_ok, is_cancelled, is_standing, is_mark, is_bilateral, day_ok, last_day, last_party, record_in, entry_of}
 use Rattle.rules.specs.declared.Entry.{Entry}
 use Rattle.rules.specs.Words.{is_book, entries, count_of}
+use Rattle.rules.specs.Book.{entry_at}
 use Rattle.rules.specs.Control.{is_earlier_or_later, is_repeated_buyer}
 use Rattle.rules.proofs.WordLaws.{no-fault, legal-bounds, book-facts, length-read}
 use Rattle.cells.specs.Cells.{over, blank}
 use Rattle.cells.proofs.CellLaws.{same_test}
-use Rattle.cells.proofs.ScanLaws.{Scanned, read_to, read_at, total-next}
+use Rattle.cells.proofs.ScanLaws.{Scanned, read_to, total-next}
 use Rattle.repeated_pairs.specs.Flags.{flagged, no_flags, with_flag}
 use Rattle.repeated_pairs.specs.Pairs.{is_other, Paired, pair_of, bit_of, bit_words, is_few, bit_at, with_bit, marked, pair_marked, pairs_of, is_hit, buyer_marked, buyers_of, shares_bit, likely_buyer, likely_among}
 use Rattle.repeated_pairs.specs.Periods.{IsPeriod}
@@ -320,8 +321,8 @@ module _ (d : ℕ) (ws : List ℕ) (i : ℕ) {n : ℕ} (c : n ≡ count (is_othe
   pub others-few : n ≤ i
   others-few = omega (arith, count-le-length (is_other d) (read_to ws i), length-read i (drop 3 ws))
 
-  pub others-next : {e : Entry} {k : ℕ} → e ≡ entry_of (read_at ws i) → k ≡ cond (is_other d (record_in e)) 1 0 → n + k ≡ count (is_other d) (read_to ws (i + 1))
-  unfolding count
+  pub others-next : {e : Entry} {k : ℕ} → e ≡ entry_of (entry_at ws i) → k ≡ cond (is_other d (record_in e)) 1 0 → n + k ≡ count (is_other d) (read_to ws (i + 1))
+  unfolding count entry_at
   others-next q k = ap₂ ◌+◌ c (k ∙ ap (λ x. cond (is_other d (record_in x)) 1 0) q) ∙ sym (total-next (λ r. cond (is_other d r) 1 0) ws i)
 
   pub others-all : {last : ℕ} → last ≡ count_of ws → i ≤ last → last ≤ i → n ≡ count (is_other d) (entries ws)

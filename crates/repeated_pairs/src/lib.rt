@@ -11,7 +11,7 @@ ghost use Rattle.repeated_pairs.specs.Pairs.{is_few, is_other, bit_words, pairs_
 use pairs::PairBits;
 use parties::Flags;
 use period::Period;
-use rules::layout::{ENTRY_WORDS, HEAD_WORDS};
+use words::Book;
 
 mod bits;
 mod pairs;
@@ -25,38 +25,34 @@ pub const ALL_WORDS: usize = 16000;
 
 // Marks the pairs with a cancelled entry of another day of the billing period, and counts these entries. The table of months
 // is searched once, not for each entry.
-fn mark_pairs<const WORDS: usize>(book: &[u32], day: u32, pairs: &mut PairBits<WORDS>) -> u32
-    requires book_value { is_book book.now ≡ true }
-    requires pairs_value { pairs.old ≡ blank (bit_words (is_few WORDS)) }
+fn mark_pairs<const WORDS: usize>(book: &Book, day: u32, pairs: &mut PairBits<WORDS>) -> u32
+    requires { pairs.old ≡ blank (bit_words (is_few WORDS)) }
     ensures others { result ≡ count (is_other day) (entries book.now) }
     ensures bits { pairs.new ≡ pairs_of (is_few WORDS) day (entries book.now) }
+    ensures book { is_book book.now ≡ true }
 {
     let _ = &pairs.words;
     let period = Period::of(day);
-    let last = words::count_of(book) as usize;
     let mut n = 0;
-    for i in 0..last {
-        let e = words::read_at(book, HEAD_WORDS + ENTRY_WORDS * i);
-        n += u32::from(pairs.mark_other(e, &period));
+    for i in 0..book.count() {
+        n += u32::from(pairs.mark_other(book.entry(i), &period));
     }
     n
 }
 
 // Flags the buyers, of those among some, of cancelled entries of the day whose bits are marked.
 fn mark_buyers<const WORDS: usize>(
-    book: &[u32],
+    book: &Book,
     day: u32,
     among: &Flags,
     pairs: &PairBits<WORDS>,
 ) -> Flags
-    requires { is_book book.now ≡ true }
     ensures { result ≡ buyers_of (is_few WORDS) day among.now pairs.now (entries book.now) }
 {
     let _ = &pairs.words;
     let mut buyers = Flags::none();
-    let count = words::count_of(book) as usize;
-    for i in 0..count {
-        let e = words::read_at(book, HEAD_WORDS + ENTRY_WORDS * i);
+    for i in 0..book.count() {
+        let e = book.entry(i);
         if pairs.is_hit(e, day, among) {
             buyers.put(e.key.counterparty, true);
         }
@@ -68,9 +64,8 @@ fn mark_buyers<const WORDS: usize>(
 // billing period; by few bits perhaps others too: where nobody is flagged by these, no pair is repeated.
 // It stays out of its callers, which would have the words in their frames.
 #[inline(never)]
-pub fn buyers<const WORDS: usize>(book: &[u32], day: u32, among: &Flags) -> Flags
-    requires book_value { is_book book.now ≡ true }
-    requires words { WORDS ≡ bit_words (is_few WORDS) }
+pub fn buyers<const WORDS: usize>(book: &Book, day: u32, among: &Flags) -> Flags
+    requires { WORDS ≡ bit_words (is_few WORDS) }
     ensures { flagged result ≡ likely_among (is_few WORDS) day (entries book.now) among.now }
 {
     let mut pairs = PairBits::<WORDS> {
