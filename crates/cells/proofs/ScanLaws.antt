@@ -13,6 +13,7 @@ use Rattle.numbers.specs.Tests.{all}
 use Rattle.numbers.proofs.TestLaws.{and_split, and-join}
 use Rattle.rules.specs.Entry.{Record, legal, record_in, entry_of}
 use Rattle.rules.specs.Words.{most_entries, is_book, entries, count_of, decode, entry_ok, entries_ok, read_entries}
+use Rattle.rules.specs.Book.{entry_at}
 use Rattle.rules.specs.declared.Entry.{Entry}
 use Rattle.rules.proofs.WordLaws.{book-facts, entry-facts, read-legal, length-read}
 use Rattle.words.proofs.BookCode.{book-long, book-entry}
@@ -72,6 +73,16 @@ unfolding entries
 scan-done {f = f} {none} {ws = ws} {i = i} c h p =
     let e : i ≡ count_of ws = omega arith in
     p.state ∙ ap (λ k. over f (read_to ws k) none) e
+
+-- the same by the entries that the code reads by their numbers: n is the count that its loop read
+pub scan-entry : {S : Type 0} {f : Record → S → S} {none s t : S} {ws : List ℕ} {n i : ℕ} {e : Entry} → n ≡ count_of ws → i < n → e ≡ entry_of (entry_at ws i) → Scanned f none ws (count_of ws) i s → t ≡ f (record_in e) s → Scanned f none ws (count_of ws) (i + 1) t
+unfolding entry_at
+scan-entry {f = f} {s = s} c h q p r = scan-more (rw c at h) p (r ∙ ap (λ x. f (record_in x) s) q)
+
+pub scan-all : {S : Type 0} {f : Record → S → S} {none s : S} {ws : List ℕ} {n i : ℕ} → n ≡ count_of ws → n ≤ i → Scanned f none ws (count_of ws) i s → s ≡ over f (entries ws) none
+scan-all c h p = scan-done refl (rw c at h) p
+
+pub ruleset book_scan = (scan-start, scan-entry, scan-all)
 
 -- a book by number, as the code goes: n is the count that it read
 module _ (ws : List ℕ) (b : is_book ws ≡ true) where

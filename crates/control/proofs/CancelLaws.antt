@@ -44,9 +44,6 @@ module _ (who : Parties) (d : ℕ) where
     unfolding cancelled_words cancel_of
     through-all = status.through-all (is_to_cancel who d) cancelled (cancels who d) ws b
 
-    pub through-length : (i : ℕ) (vs : List ℕ) → Through who d ws i vs → length vs ≡ length ws
-    through-length = status.through-length (is_to_cancel who d) cancelled (cancels who d) ws b
-
     module _ (i : ℕ) (h : i < count_of ws) (vs : List ℕ) (t : Through who d ws i vs) where
       pub through-placed : Placed vs i
       through-placed =

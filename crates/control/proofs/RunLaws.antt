@@ -100,9 +100,6 @@ module _ (ws : List ℕ) (d : ℕ) {flags who : Parties} (e : flags ≡ who) whe
   unfolding pass_of
   pass-counts p n = ap₂ (λ x y. record { parties = x; entries = y }) p n ∙ ap (λ w. pass_of w d ws) e
 
-  pub pass-words : {us : List ℕ} → us ≡ cancelled_words flags d ws → us ≡ cancelled_words who d ws
-  pass-words u = u ∙ ap (λ w. cancelled_words w d ws) e
-
 -- the whole, call by call
 module _ (ws : List ℕ) (d : ℕ) (z : cause_of ws (control d) ≡ 0) where
   abbrev R : ℕ

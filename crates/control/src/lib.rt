@@ -5,6 +5,7 @@ ghost use Rattle.std.specs.Prelude.{◌≡◌};
 ghost use Rattle.rules.specs.Calls.{cause_of, words_after, control_answer};
 ghost use Rattle.rules.specs.Calls as calls;
 
+use detection::Pass;
 use rules::{Controlled, causes};
 
 mod passes;
@@ -34,8 +35,8 @@ fn run(book: &mut [u32], day: u32) -> Controlled
     ensures answer { result ≡ control_answer book.old day }
     ensures words { book.new ≡ words_after book.old (calls.control day) }
 {
-    let first = passes::run_pass(book, day, false);
-    let second = passes::run_pass(book, day, true);
+    let first = passes::run_pass(book, day, Pass::First);
+    let second = passes::run_pass(book, day, Pass::Second);
     passes::append_mark(book, day);
     Controlled {
         answer: 0,

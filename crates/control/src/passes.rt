@@ -6,12 +6,12 @@ ghost use Rattle.rules.specs.Words.{is_book, entries, count_of, room_in};
 ghost use Rattle.rules.specs.Stores.{posted};
 ghost use Rattle.rules.specs.Control.{is_to_cancel};
 ghost use Rattle.repeated_pairs.specs.Flags.{flagged};
+ghost use Rattle.detection.specs.Passes.{is_second};
 ghost use Rattle.detection.specs.Tables.{of_pass};
 ghost use Rattle.control.specs.Passes.{cancelled_words, pass_of};
 
-use repeated_pairs::parties;
+use detection::Pass;
 use repeated_pairs::parties::Flags;
-use rules::bounds::NUMBERS;
 use rules::layout::{BILATERAL, CANCELLED, ENTRY_WORDS, HEAD_WORDS, MARK, STANDING};
 use rules::{Entry, Key};
 
@@ -30,7 +30,7 @@ fn is_to_cancel(e: Entry, day: u32, flags: &Flags) -> bool
     (e.status == STANDING)
         & (e.key.day == day)
         & ((e.key.entry_type == BILATERAL) & (0 < e.key.counterparty))
-        & flags[e.key.party as usize]
+        & flags.has(e.key.party)
 }
 
 // The sales of flagged parties become cancelled, and are counted. The test has a use beside the branch, so that the compiler
@@ -42,45 +42,42 @@ fn cancel(book: &mut [u32], day: u32, flags: &Flags) -> u32
 {
     let count = words::count_of(book) as usize;
     let mut n = 0;
-    let mut i = 0;
-    while i < count {
+    for i in 0..count {
         let e = words::read_at(book, HEAD_WORDS + ENTRY_WORDS * i);
         let cancelled = is_to_cancel(e, day, flags);
         if cancelled {
             entry_stores::set_status(book, i, CANCELLED);
         }
-        n += parties::one_if(cancelled);
-        i += 1;
+        n += u32::from(cancelled);
     }
     n
 }
 
 // One pass by a table: its parties are counted, and their sales cancelled together.
-fn pass(book: &mut [u32], day: u32, second: bool) -> Passed
+fn pass_by_table(book: &mut [u32], day: u32, pass: Pass) -> Passed
     requires { is_book book.old ≡ true }
-    ensures counts { result ≡ pass_of (of_pass second book.old day) day book.old }
-    ensures words { book.new ≡ cancelled_words (of_pass second book.old day) day book.old }
+    ensures counts { result ≡ pass_of (of_pass (is_second pass) book.old day) day book.old }
+    ensures words { book.new ≡ cancelled_words (of_pass (is_second pass) book.old day) day book.old }
 {
-    let mut flags = [false; NUMBERS];
-    detection::flag_parties(book, day, second, &mut flags);
-    let parties = parties::count(&flags);
+    let flags = detection::flag_parties(book, day, pass);
+    let parties = flags.count();
     let entries = cancel(book, day, &flags);
     Passed { parties, entries }
 }
 
 // A pass. One that has nobody counts none, cancels nothing and needs no table.
-pub fn run_pass(book: &mut [u32], day: u32, second: bool) -> Passed
+pub fn run_pass(book: &mut [u32], day: u32, pass: Pass) -> Passed
     requires { is_book book.old ≡ true }
-    ensures counts { result ≡ pass_of (of_pass second book.old day) day book.old }
-    ensures words { book.new ≡ cancelled_words (of_pass second book.old day) day book.old }
+    ensures counts { result ≡ pass_of (of_pass (is_second pass) book.old day) day book.old }
+    ensures words { book.new ≡ cancelled_words (of_pass (is_second pass) book.old day) day book.old }
 {
-    if empty_passes::has_nobody(book, day, second) {
+    if empty_passes::has_nobody(book, day, pass) {
         return Passed {
             parties: 0,
             entries: 0,
         };
     }
-    pass(book, day, second)
+    pass_by_table(book, day, pass)
 }
 
 // The mark of a day takes the next place.

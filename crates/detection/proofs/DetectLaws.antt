@@ -6,7 +6,7 @@ use mathlib.Core.List.{List}
 use Prim.Native.Nat.{ℕ, ◌<◌}
 use native.Mathlib.Nat.{le_refl}
 use lib.Dec.{ltb}
-use lib.ListN.{replicate, get_or-replicate}
+use lib.ListN.{get_or-replicate}
 use borrow.Author.Tests.{ltb-true, ltb-false}
 use Rattle.numbers.proofs.TestLaws.{bool_cases}
 use Rattle.rules.specs.Entry.{party_ok, party_places}
@@ -16,20 +16,20 @@ use Rattle.rules.proofs.WordLaws.{book-facts, within-true}
 use Rattle.cells.specs.Cells.{AtMost}
 use Rattle.cells.proofs.ScanLaws.{table_to}
 use Rattle.balance_formulas.specs.Bounded.{most_sum}
-use Rattle.repeated_pairs.specs.Flags.{flagged, no_flags}
+use Rattle.repeated_pairs.specs.Flags.{flagged, all_flags}
 use Rattle.detection.specs.Tables.{table_cells, table_of, detected_among, checked, of_pass, Flaggable}
 use Rattle.detection.proofs.BelowLaws.{no-party}
-use Rattle.detection.proofs.TableLaws.{day-limited, length-table, ahead-is}
+use Rattle.detection.proofs.TableLaws.{day-limited, ahead-is}
 
 module _ (ws : List ℕ) (b : is_book ws ≡ true) (d : ℕ) where
   table-within : AtMost most_sum (table_of d (entries ws))
   unfolding table_of entries
   table-within = table_to ws b (day-limited d) table_cells (count_of ws) (le_refl (count_of ws))
 
-  pub flaggable : (cells : List ℕ) (flags : List Bool) → cells ≡ table_of d (entries ws) → flags ≡ no_flags → Flaggable cells (coefficient_of ws) (tolerance_of ws) flags
-  flaggable cells flags e n =
+  pub flaggable : (cells : List ℕ) → cells ≡ table_of d (entries ws) → Flaggable cells (coefficient_of ws) (tolerance_of ws)
+  flaggable cells e =
       let f = book-facts ws b in
-      rw e (record { long = length-table d (entries ws); within = table-within; coefficient = f.coefficient; tolerance = f.tolerance; none = n })
+      rw e (record { within = table-within; coefficient = f.coefficient; tolerance = f.tolerance })
 
   pub table-detects : (cells : List ℕ) (among : List Bool) → cells ≡ table_of d (entries ws) → detected_among cells (coefficient_of ws) (tolerance_of ws) among ≡ checked ws d among
   unfolding detected_among checked detected_in
@@ -43,11 +43,12 @@ module _ (ws : List ℕ) (b : is_book ws ≡ true) (d : ℕ) where
           ]
 
 -- the first pass asks everyone
-pub asked : {among : List Bool} → among ≡ replicate party_places true → (p : ℕ) → p < party_places → flagged among p ≡ true
+pub asked : {among : List Bool} → among ≡ all_flags → (p : ℕ) → p < party_places → flagged among p ≡ true
+unfolding all_flags
 asked q p h = rw q (get_or-replicate party_places p true false h)
 
 module _ (ws : List ℕ) (d : ℕ) where
-  pub all_asked : {among : List Bool} → among ≡ replicate party_places true → checked ws d among ≡ of_pass false ws d
+  pub all_asked : {among : List Bool} → among ≡ all_flags → checked ws d among ≡ of_pass false ws d
   unfolding checked of_pass detected_in
   all_asked {among} q = fun_ext at
     where

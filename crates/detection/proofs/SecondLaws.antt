@@ -4,15 +4,14 @@ use mathlib.Core.Logic.{inl, inr}
 use mathlib.Core.Bool.{Bool, true, false, ◌&&◌, true≢false, and-false}
 use mathlib.Core.List.{List}
 use Prim.Native.Nat.{ℕ, ◌≤◌, ◌<◌}
-use lib.ListN.{replicate}
 use Rattle.numbers.proofs.TestLaws.{bool_cases, below-or-above, and_split, and-join}
 use Rattle.rules.specs.Entry.{Record, party_places}
 use Rattle.rules.specs.Words.{is_book, entries, coefficient_of, tolerance_of}
 use Rattle.rules.specs.Control.{Parties, detected_in, is_repeated_buyer, detected_parties}
 use Rattle.rules.proofs.WordLaws.{book-facts}
-use Rattle.repeated_pairs.specs.Flags.{flagged, no_flags}
+use Rattle.repeated_pairs.specs.Flags.{flagged, no_flags, all_flags}
 use Rattle.repeated_pairs.specs.Pairs.{likely_among}
-use Rattle.detection.specs.Tables.{checked, of_pass, Asked}
+use Rattle.detection.specs.Tables.{checked, of_pass}
 use Rattle.repeated_pairs.proofs.FlagLaws.{no_flag, count_none}
 use Rattle.detection.proofs.BelowLaws.{no-party}
 use Rattle.detection.proofs.DetectLaws.{asked}
@@ -30,10 +29,10 @@ module _ (ws : List ℕ) (b : is_book ws ≡ true) (d : ℕ) where
   found-past p l = rw (no-party p l)
 
   -- whom few bits leave
-  module _ (everyone likely : List Bool) {found : Bool} (a : Asked found ws d everyone) (n : found ≡ false) (e : flagged likely ≡ likely_among true d rs everyone) where
+  module _ (everyone likely : List Bool) (a : everyone ≡ all_flags) (e : flagged likely ≡ likely_among true d rs everyone) where
     buyer-likely : (p : ℕ) → p < party_places → is_repeated_buyer d rs p ≡ true → flagged likely p ≡ true
     unfolding likely_among
-    buyer-likely p h r = ap (λ f. f p) e ∙ and-join _ _ (asked (a.everyone n) p h) (repeated-likely true d rs p r)
+    buyer-likely p h r = ap (λ f. f p) e ∙ and-join _ _ (asked a p h) (repeated-likely true d rs p r)
 
     -- nobody, where no party within the flags is both
     nobody-is : (flags : List Bool) → flags ≡ no_flags → ((p : ℕ) → p < party_places → is_repeated_buyer d rs p ≡ true → Found p ≡ true → ⊥) → flagged flags ≡ of_pass true ws d
@@ -85,16 +84,8 @@ module _ (ws : List ℕ) (b : is_book ws ≡ true) (d : ℕ) where
           and_yes true = refl
           and_yes false = refl
 
-      pub narrowed-to : Asked true ws d detected
-      narrowed-to = record { everyone = λ e. absurd (true≢false e); narrowed = λ e. narrowed_at }
-
--- all bits tell the buyers of repeated pairs
-pub all_found : (ws : List ℕ) (d : ℕ) (among flags : List Bool) {found : Bool} → is_book ws ≡ true → Asked found ws d among → found ≡ true →
-    flagged flags ≡ likely_among false d (entries ws) among → flagged flags ≡ of_pass true ws d
-unfolding likely_among
-all_found ws d among flags b a e f =
-    f
-    ∙ fun_ext (λ p. ap (λ g. flagged among p && g p) (likely-repeated d (entries ws) (book-facts ws b).legals) ∙ a.narrowed e p)
-
-pub ask-everyone : (ws : List ℕ) (d : ℕ) {among : List Bool} → among ≡ replicate party_places true → Asked false ws d among
-ask-everyone ws d e = record { everyone = λ q. e; narrowed = λ q. absurd (true≢false (sym q)) }
+      -- all bits tell them
+      pub all_found : (flags : List Bool) → flagged flags ≡ likely_among false d rs detected → flagged flags ≡ of_pass true ws d
+      unfolding likely_among
+      all_found flags f =
+          f ∙ fun_ext (λ p. ap (λ g. flagged detected p && g p) (likely-repeated d rs (book-facts ws b).legals) ∙ narrowed_at p)

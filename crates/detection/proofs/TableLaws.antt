@@ -155,21 +155,9 @@ add_most (x ∷ xs) (suc k) zero a = omega arith
 add_most (x ∷ xs) (suc k) (suc i) a = add_most xs k i a
 
 -- one entry, as the code adds it: 0 where it is not read, and to the counterparty's cover 0 where it is no bilateral sale
-module _ (d : ℕ) (r : Record) {b : Bool} (e : b ≡ is_read d r.label) where
-  pub own_read : {a : ℕ} → b ≡ true → a ≡ r.amount → a ≡ own_amount d r
-  unfolding own_amount
-  own_read h q = rw (sym e ∙ h) q
-
-  pub own-not : b ≡ false → 0 ≡ own_amount d r
-  unfolding own_amount
-  own-not h = rw (sym e ∙ h)
-
-module _ (t a : ℕ) where
-  pub sold-yes : t ≡ 6 → a ≡ cond (eqb t bilateral) a 0
-  sold-yes e = rw e
-
-  pub sold-no : (t ≡ 6 → ⊥) → 0 ≡ cond (eqb t bilateral) a 0
-  sold-no n = rw (ne_eqb t bilateral n)
+pub own-is : (d : ℕ) (r : Record) {b : Bool} {a : ℕ} → b ≡ is_read d r.label → a ≡ cond b r.amount 0 → a ≡ own_amount d r
+unfolding own_amount
+own-is d r e q = rw e at q
 
 pub type-most : (r : Record) → legal r ≡ true → (key r).type ≤ last_type
 type-most r l = (legal-bounds r l).type

@@ -1,15 +1,15 @@
 -- What the scan of a control makes of the entries: of each party what its day-ahead balance reads, and who is detected by it.
 -- Only the contracts of internal functions cite these; the laws tie them to rules/specs/Control.
-use Rattle.std.specs.Prelude.{◌≡◌, Bool, true, false, not, cond, ◌&&◌, ◌||◌, List, [], ◌∷◌, ℕ, ◌+◌, ◌*◌, ◌≤◌, max, eqb, ℤ, length, get_or, replicate}
+use Rattle.std.specs.Prelude.{Bool, true, not, cond, ◌&&◌, ◌||◌, List, [], ◌∷◌, ℕ, ◌+◌, ◌*◌, ◌≤◌, max, eqb, ℤ, get_or}
 use Rattle.std.proofs.Math.IntN.{sub_ℕ}
 use Rattle.numbers.specs.Tests.{every}
-use Rattle.rules.specs.Entry.{Label, Record, is_export, bilateral, updated_program, standing, party_ok, last_party, party_places}
+use Rattle.rules.specs.Entry.{Label, Record, is_export, bilateral, updated_program, standing, party_ok, last_party}
 use Rattle.rules.specs.Words.{entries, coefficient_of, tolerance_of, most_coefficient, most_tolerance}
 use Rattle.rules.specs.Balance.{is_detected}
 use Rattle.rules.specs.Control.{Parties, detected_in, is_repeated_buyer}
 use Rattle.cells.specs.Cells.{Cells, one_if, filled, AtMost}
 use Rattle.balance_formulas.specs.Bounded.{most_sum}
-use Rattle.repeated_pairs.specs.Flags.{flagged, no_flags}
+use Rattle.repeated_pairs.specs.Flags.{flagged}
 
 -- the largest number of a type
 abbrev pub last_type : ℕ
@@ -77,15 +77,8 @@ checked ws d among p = flagged among p && detected_in (coefficient_of ws) (toler
 unfoldable pub of_pass : Bool → List ℕ → ℕ → Parties
 of_pass second ws d p = cond second (is_repeated_buyer d (entries ws) p) true && detected_in (coefficient_of ws) (tolerance_of ws) d (entries ws) p
 
--- whom the second pass asks: at first everyone; then some who, so far as they are buyers of repeated pairs, are its parties
-pub record Asked (found : Bool) (ws : List ℕ) (d : ℕ) (among : List Bool) : Type 0 where
-  pub everyone : found ≡ false → among ≡ replicate party_places true
-  pub narrowed : found ≡ true → (p : ℕ) → flagged among p && is_repeated_buyer d (entries ws) p ≡ of_pass true ws d p
-
--- a table whose balances fit, and flags of which none is set
-pub record Flaggable (cells : List ℕ) (R TM : ℕ) (flags : List Bool) : Type 0 where
-  pub long : length cells ≡ table_cells
+-- a table whose balances fit
+pub record Flaggable (cells : List ℕ) (R TM : ℕ) : Type 0 where
   pub within : AtMost most_sum cells
   pub coefficient : R ≤ most_coefficient
   pub tolerance : TM ≤ most_tolerance
-  pub none : flags ≡ no_flags

@@ -1,41 +1,41 @@
 -- Without a sale of the day a pass has no party, and without a cancelled entry of the day the second has none. Assumes nothing.
 use mathlib.Core.Path.{◌≡◌, refl, sym, ap, ◌∙◌, fun_ext}
 use mathlib.Core.Logic.{inl, inr}
-use mathlib.Core.Bool.{Bool, true, false, not, cond, ◌&&◌, ◌||◌, and-false, true≢false}
+use mathlib.Core.Bool.{Bool, true, false, not, cond, ◌&&◌, and-false, true≢false}
 use mathlib.Core.List.{List, [], ◌∷◌}
-use Prim.Native.Nat.{ℕ, ◌*◌, max}
+use Prim.Native.Nat.{ℕ, suc, ◌*◌, ◌<◌, max}
 use native.Mathlib.Omega.{arith}
 use lib.Dec.{eqb}
+use lib.ListN.{length, get_or, drop}
+use lib.Seq.{drop-drop}
+use Rattle.rules.proofs.WordLaws.{book-facts, read_at_lem}
+use Rattle.std.specs.List.{All}
 use borrow.Author.Tests.{eqb-true}
 use Rattle.numbers.specs.Sums.{total}
 use Rattle.numbers.specs.Tests.{every, any}
 use Rattle.numbers.proofs.TestLaws.{bool_cases, or-false-split, every_holds, holds-every}
 use Rattle.rules.specs.Entry.{Record, key, is_standing, is_export, party_ok}
-use Rattle.rules.specs.Words.{entries, coefficient_of, tolerance_of}
+use Rattle.rules.specs.Words.{is_book, entries, count_of, coefficient_of, tolerance_of}
 use Rattle.rules.specs.Balance.{day_ahead, counted, sum_of, bought_by, tally_of, sale_side, cover_side, balance_of, balance, is_detected}
 use Rattle.rules.specs.Control.{detected_in, is_repeated_buyer}
 use Rattle.rules.proofs.SumOrder.{for_tests}
-use Rattle.cells.specs.Cells.{over}
+use Rattle.cells.proofs.ScanLaws.{read_at}
 use Rattle.detection.specs.Tables.{is_sale_type, of_pass}
 use Rattle.detection.proofs.BelowLaws.{not-above}
 use Rattle.repeated_pairs.proofs.PairLaws.{any_none}
-use Rattle.empty_passes.specs.Sought.{nobody, is_cancelled_on, is_sale_on, is_sought, seen}
+use Rattle.empty_passes.specs.Sought.{nobody, is_cancelled_on, is_sale_on}
 
--- the entries of a book looked through, one after the other
-module _ (c : Bool) (d : ℕ) where
-  pub not_seen : {found : Bool} (r : Record) → found ≡ is_sought c d r → found ≡ false → false ≡ seen c d r false
-  unfolding seen
-  not_seen r e f = sym f ∙ e
+-- entry number i of a book
+pub entry-read : (ws : List ℕ) (b : is_book ws ≡ true) (i : ℕ) (r : Record) → i < length (entries ws) → get_or (entries ws) i r ≡ read_at ws i
+unfolding entries
+entry-read ws b i r h =
+    rw (← drop-drop (5 * i) 3 ws) (read_at_lem (count_of ws) (drop 3 ws) i r (omega (arith, (book-facts ws b).count)))
 
-  seen-any : (rs : List Record) (s : Bool) → over (seen c d) rs s ≡ s || any (is_sought c d) rs
-  unfolding over any seen
-  seen-any [] true = refl
-  seen-any [] false = refl
-  seen-any (r ∷ rs) true = seen-any rs true
-  seen-any (r ∷ rs) false = seen-any rs (is_sought c d r)
-
-  pub none_seen : (rs : List Record) → false ≡ over (seen c d) rs false → any (is_sought c d) rs ≡ false
-  none_seen rs e = sym (e ∙ seen-any rs false)
+-- a test that holds of no entry
+pub none_of : (f : Record → Bool) (rs : List Record) → All (λ r. false ≡ f r) rs → any f rs ≡ false
+unfolding any
+none_of f [] h = refl
+none_of f (r ∷ rs) h = rw (sym (h 0 r (omega arith))) (none_of f rs (λ k d l. h (suc k) d (omega arith)))
 
 -- without a sale of the day no sum of a sale has an amount, and no balance is above zero
 total-without : (f : Record → ℕ) (g : Record → Bool) → ((r : Record) → g r ≡ false → f r ≡ 0) → (rs : List Record) → any g rs ≡ false → total f rs ≡ 0
@@ -70,11 +70,11 @@ module _ (d p : ℕ) where
     not-detected R TM = rw (no-sales, not-above (max (100 * TM) (cover_side day_ahead (tally_of p d rs) (bought_by p d rs) * R))) (and-false (party_ok p))
 
 module _ (ws : List ℕ) (d : ℕ) where
-  pub no-seller : (second : Bool) → any (is_sought false d) (entries ws) ≡ false → of_pass second ws d ≡ nobody
-  unfolding of_pass is_sought
+  pub no-seller : (second : Bool) → any (is_sale_on d) (entries ws) ≡ false → of_pass second ws d ≡ nobody
+  unfolding of_pass
   no-seller second none = fun_ext (λ p. rw (not-detected d p (entries ws) none (coefficient_of ws) (tolerance_of ws)) (and-false (cond second (is_repeated_buyer d (entries ws) p) true)))
 
-  pub no-buyer : {second : Bool} → second ≡ true → any (is_sought true d) (entries ws) ≡ false → of_pass second ws d ≡ nobody
-  unfolding of_pass is_repeated_buyer is_sought is_cancelled_on
+  pub no-buyer : {second : Bool} → second ≡ true → any (is_cancelled_on d) (entries ws) ≡ false → of_pass second ws d ≡ nobody
+  unfolding of_pass is_repeated_buyer is_cancelled_on
   no-buyer q none =
       rw q (fun_ext (λ p. ap (λ b. b && detected_in (coefficient_of ws) (tolerance_of ws) d (entries ws) p) (any_none _ (is_cancelled_on d) (λ r e. rw e) (entries ws) none)))

@@ -1,5 +1,5 @@
 -- What a pass of a control needs an entry of. Only the contracts of internal functions cite these.
-use Rattle.std.specs.Prelude.{Bool, false, not, cond, ◌||◌, [], ◌∷◌, ℕ, eqb}
+use Rattle.std.specs.Prelude.{Bool, false, not, [], ◌∷◌, ℕ, eqb}
 use Rattle.numbers.specs.Tests.{every}
 use Rattle.rules.specs.Entry.{Record, key, is_standing, is_cancelled, is_export}
 use Rattle.rules.specs.Control.{Parties}
@@ -17,10 +17,3 @@ is_cancelled_on d r = every (is_cancelled r ∷ eqb (key r).day d ∷ [])
 unfoldable pub is_sale_on : ℕ → Record → Bool
 is_sale_on d r =
     every (is_standing r ∷ eqb (key r).day d ∷ is_sale_type (key r).type ∷ not (is_export (key r)) ∷ [])
-
--- either of the two, and whether one was seen, with one entry more
-unfoldable pub is_sought : Bool → ℕ → Record → Bool
-is_sought cancelled d r = cond cancelled (is_cancelled_on d r) (is_sale_on d r)
-
-unfoldable pub seen : Bool → ℕ → Record → Bool → Bool
-seen cancelled d r s = s || is_sought cancelled d r

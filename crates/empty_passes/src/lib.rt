@@ -1,58 +1,61 @@
 // Internal: whether a pass of a control has nobody, by scans of a checked book. A caller meets each `requires`.
 #![tactic(auto)]
 
-ghost use Rattle.std.specs.Prelude.{◌≡◌, true, false};
-ghost use Rattle.numbers.specs.Tests.{any};
-ghost use Rattle.rules.specs.Entry.{record_in};
+ghost use Rattle.std.specs.Prelude.{◌≡◌, true, false, All};
+ghost use Rattle.rules.specs.Entry.{record_in, entry_of};
 ghost use Rattle.rules.specs.Words.{is_book, entries};
 ghost use Rattle.detection.specs.Tables.{of_pass};
-ghost use Rattle.empty_passes.specs.Sought.{nobody, is_sought};
+ghost use Rattle.detection.specs.Passes.{is_second};
+ghost use Rattle.empty_passes.specs.Sought.{nobody, is_cancelled_on, is_sale_on};
 
-use detection::sums;
+use detection::{Pass, sums};
 use rules::Entry;
 use rules::layout::{BILATERAL, CANCELLED, ENTRY_WORDS, HEAD_WORDS, STANDING};
 
-// A cancelled entry of the day, or a standing sale of the day in the day-ahead balance (Article 7).
-fn is_sought(e: Entry, day: u32, cancelled: bool) -> bool
-    ensures { result ≡ is_sought cancelled day (record_in e) }
+// A cancelled entry of the day.
+fn is_cancelled_on(e: Entry, day: u32) -> bool
+    ensures { result ≡ is_cancelled_on day (record_in e) }
 {
-    if cancelled {
-        return (e.status == CANCELLED) & (e.key.day == day);
-    }
+    (e.status == CANCELLED) & (e.key.day == day)
+}
+
+// A standing sale of the day in the day-ahead balance (Article 7).
+fn is_sale_on(e: Entry, day: u32) -> bool
+    ensures { result ≡ is_sale_on day (record_in e) }
+{
     (e.status == STANDING)
         & (e.key.day == day)
         & sums::is_sale(e.key.entry_type)
         & !((e.key.entry_type == BILATERAL) & (e.key.counterparty == 0))
 }
 
-// Whether the book has such an entry: false only where it has none.
-fn has_entry(book: &[u32], day: u32, cancelled: bool) -> bool
-    requires { is_book book.now ≡ true }
-    ensures { result ≡ false → any (is_sought cancelled day) (entries book.now) ≡ false }
+// Whether the book has an entry of which a test holds: false only where it has none.
+fn has_entry<F: Fn(Entry) -> bool>(book: &[u32], is_sought: F) -> bool
+    requires book_value { is_book book.now ≡ true }
+    requires callable { F.IsAlwaysCallable is_sought }
+    ensures { result ≡ false → All (λ r. F.post is_sought (entry_of r) false) (entries book.now) }
 {
     let count = words::count_of(book) as usize;
-    let mut i = 0;
-    while i < count {
+    for i in 0..count {
         let e = words::read_at(book, HEAD_WORDS + ENTRY_WORDS * i);
-        if is_sought(e, day, cancelled) {
+        if is_sought(e) {
             return true;
         }
-        i += 1;
     }
     false
 }
 
 // Whether a pass has no party: true only where it has none.
 // Without a sale of the day nobody is detected, and without a cancelled entry of the day no pair is repeated.
-pub fn has_nobody(book: &[u32], day: u32, second: bool) -> bool
+pub fn has_nobody(book: &[u32], day: u32, pass: Pass) -> bool
     requires { is_book book.now ≡ true }
-    ensures { result ≡ true → of_pass second book.now day ≡ nobody }
+    ensures { result ≡ true → of_pass (is_second pass) book.now day ≡ nobody }
 {
-    if !has_entry(book, day, false) {
+    if !has_entry(book, |e| is_sale_on(e, day)) {
         return true;
     }
-    if second {
-        return !has_entry(book, day, true);
+    match pass {
+        Pass::First => false,
+        Pass::Second => !has_entry(book, |e| is_cancelled_on(e, day)),
     }
-    false
 }

@@ -5,6 +5,7 @@ use mathlib.Core.Bool.{Bool, true, false, cond, ◌&&◌, ◌||◌, and-false}
 use mathlib.Core.List.{List}
 use Prim.Native.Nat.{ℕ, zero, suc, ◌+◌, ◌≤◌, ◌<◌}
 use native.Mathlib.Omega.{arith}
+use mir.Val.{bool_byte}
 use lib.Dec.{eqb, ltb}
 use lib.ListN.{length, get_or, set, length-set, length-replicate}
 use lib.Seq.{get_or-set_same, get_or-set_other}
@@ -84,6 +85,11 @@ module _ (f : Parties) where
               | inl e ↦ b.flag q ∙ rw e
               | inr e ↦ b.flag q ∙ rw (e, z q (omega (arith, ltb-false q n e)))
             ]
+
+-- a test as a number
+pub byte-is : (b : Bool) → (bool_byte b ≡ cond b 1 0) × (bool_byte b ≤ 1)
+byte-is true = (refl, omega arith)
+byte-is false = (refl, omega arith)
 
 -- where none is counted, none is set
 pub unset : (b : Bool) → ◌≡◌ {A = ℕ} (cond b 1 0) 0 → b ≡ false

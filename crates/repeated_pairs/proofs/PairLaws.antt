@@ -7,7 +7,8 @@ use Prim.Native.Nat.{ℕ, suc, ◌+◌, ◌*◌, ◌%◌, ◌≤◌, ◌<◌}
 use native.Mathlib.Numerals.{add-one}
 use native.Mathlib.Omega.{arith}
 use lib.Dec.{eqb, leb, ltb}
-use lib.ListN.{length, drop, length-replicate}
+use lib.ListN.{length, drop, replicate, length-replicate}
+use prog.Memory.{up}
 use borrow.Author.Tests.{eqb-true, eq-eqb, ne_eqb, leb-true, ltb-true, le-leb, lt-ltb}
 use Rattle.numbers.specs.Sums.{total, count}
 use Rattle.numbers.specs.Tests.{every, all, any}
@@ -15,17 +16,18 @@ use Rattle.numbers.proofs.SumLaws.{cond_below, count-le-length}
 use Rattle.numbers.proofs.TestLaws.{bool_cases, below-or-above, and_split, and-join, or_cases, or_left, or_right, or-false-split, every_holds, holds-every}
 use Rattle.calendar.specs.Calendar.{months, month_of, month_start}
 use Rattle.calendar.proofs.MonthLaws.{start-mono, start-end, InMonth, month-unique, month-past, month-holds}
-use Rattle.rules.specs.Entry.{Record, key, legal, fault, status_ok, mark_ok, is_cancelled, is_standing, is_mark, is_bilateral, day_ok, last_day, record_in, entry_of}
+use Rattle.rules.specs.Entry.{Record, key, legal, fault, status_ok, mark_ok, is_cancelled, is_standing, is_mark, is_bilateral, day_ok, last_day, last_party, record_in, entry_of}
 use Rattle.rules.specs.declared.Entry.{Entry}
 use Rattle.rules.specs.Words.{is_book, entries, count_of}
+use Rattle.rules.specs.Book.{entry_at}
 use Rattle.rules.specs.Control.{is_earlier_or_later, is_repeated_buyer}
 use Rattle.rules.proofs.WordLaws.{no-fault, legal-bounds, book-facts, length-read}
 use Rattle.cells.specs.Cells.{over, blank}
 use Rattle.cells.proofs.CellLaws.{same_test}
-use Rattle.cells.proofs.ScanLaws.{Scanned, read_to, read_at, total-next}
+use Rattle.cells.proofs.ScanLaws.{Scanned, read_to, total-next}
 use Rattle.repeated_pairs.specs.Flags.{flagged, no_flags, with_flag}
-use Rattle.repeated_pairs.specs.Pairs.{IsPeriod, is_other, Paired, pair_of, bit_of, bit_words, bit_at, with_bit, marked, pair_marked, pairs_of, is_hit, buyer_marked, buyers_of, shares_bit, likely_buyer, likely_among}
-use Rattle.repeated_pairs.specs.declared.Period.{Period}
+use Rattle.repeated_pairs.specs.Pairs.{is_other, Paired, pair_of, bit_of, bit_words, is_few, bit_at, with_bit, marked, pair_marked, pairs_of, is_hit, buyer_marked, buyers_of, shares_bit, likely_buyer, likely_among}
+use Rattle.repeated_pairs.specs.Periods.{IsPeriod}
 use Rattle.repeated_pairs.proofs.FlagLaws.{unset, no_flag, length-no_flags, length-flag, flag-after}
 use Rattle.repeated_pairs.proofs.BitLaws.{length-bit, bit-after, no-bit}
 
@@ -76,7 +78,7 @@ month-days m e h = same_test inside (λ t. let q : m ≡ month_of e = sym (eqb-t
           | inr b ↦ absurd (omega (arith, start-mono months m b, start-end))
         ]
 
-pub period-found : (d : ℕ) {m f n : ℕ} → m ≡ month_of d → f ≡ month_start m → n ≡ month_start (m + 1) → IsPeriod d (record { first = f; next = n })
+pub period-found : (d : ℕ) {m f n : ℕ} → m ≡ month_of d → f ≡ month_start m → n ≡ month_start (m + 1) → IsPeriod d f n
 period-found d {m} k p q = record { same = λ e h. rw (p, q, ← k) (month-days m e h) }
 
 -- the last month of the table, or the one after it
@@ -84,10 +86,10 @@ pub month-most : (d : ℕ) → month_of d ≤ months
 month-most d =
     elim (below-or-above d 36525) [ inl b ↦ omega (arith, (month-holds d b).below) | inr b ↦ omega (arith, month-past d b) ]
 
-pub other-by-days : (d : ℕ) (r : Record) (p : Period) → IsPeriod d p → legal r ≡ true →
-    is_cancelled r && not (eqb (key r).day d) && (leb p.first (key r).day && ltb (key r).day p.next) ≡ is_other d r
+pub other-by-days : (d : ℕ) (r : Record) {first next : ℕ} → IsPeriod d first next → legal r ≡ true →
+    is_cancelled r && not (eqb (key r).day d) && (leb first (key r).day && ltb (key r).day next) ≡ is_other d r
 unfolding is_other
-other-by-days d r p i l =
+other-by-days d r i l =
     let b = legal-bounds r l in
     ap (λ m. is_cancelled r && not (eqb (key r).day d) && m) (i.same (key r).day (omega arith))
 
@@ -172,6 +174,14 @@ or-none : (a b : Bool) → b ≡ false → a || b ≡ a
 or-none true b e = refl
 or-none false b e = e
 
+-- few words, or those of a bit for each pair
+pub words-fit : {n : ℕ} → n ≡ bit_words (is_few n) → up 8 (0 + n * 8) < 9223372036854775808
+words-fit {n} e = elim (bool_cases (is_few n)) [ inl q ↦ rw (e, q) (omega arith) | inr q ↦ rw (e, q) (omega arith) ]
+
+pub words-blank : {n : ℕ} → n ≡ bit_words (is_few n) → replicate n 0 ≡ blank (bit_words (is_few n))
+unfolding blank
+words-blank e = ap (λ k. replicate k 0) e
+
 length-words : (few : Bool) → length (blank (bit_words few)) ≡ bit_words few
 unfolding blank
 length-words few = length-replicate {A = ℕ} (bit_words few) 0
@@ -179,6 +189,17 @@ length-words few = length-replicate {A = ℕ} (bit_words few) 0
 pub pair-in : (few : Bool) (r : Record) {k : ℕ} → Paired r → k ≡ bit_of few r → k < 64 * bit_words few
 pair-in true r p q = omega arith
 pair-in false r p q = omega arith
+
+pub bit-within : {n k : ℕ} (words : List ℕ) {r : Record} → n ≡ bit_words (is_few n) → length words ≡ n → Paired r → k ≡ bit_of (is_few n) r → k < 64 * length words
+bit-within words {r} e l p q = rw (l, e) (pair-in _ r p q)
+
+-- the remainder by their number is the bit: where each pair has its own, all are below
+pub bit-is : (n : ℕ) {r : Record} → n ≡ bit_words (is_few n) → Paired r → pair_of r % (64 * n) ≡ bit_of (is_few n) r
+bit-is n {r} e p =
+    elim (bool_cases (is_few n)) [
+      | inl q ↦ let k : n ≡ 64 = e ∙ ap bit_words q in rw (q, k)
+      | inr q ↦ let k : n ≡ 16000 = e ∙ ap bit_words q in rw (q, k) (omega arith)
+    ]
 
 -- a bit of its own for each pair
 same-pair : (r s : Record) → Paired r → Paired s → eqb (pair_of s) (pair_of r) ≡ eqb (key s).party (key r).party && eqb (key s).counterparty (key r).counterparty
@@ -195,6 +216,9 @@ same-pair r s p q =
           ∙ sym e
     ]
 
+pub of-day-cancelled : (d : ℕ) (r : Record) → is_cancelled r && eqb (key r).day d ≡ true → is_cancelled r ≡ true
+of-day-cancelled d r h = (and_split (is_cancelled r) (eqb (key r).day d) h).0
+
 -- one entry, as the code looks at it
 module _ (few : Bool) (d : ℕ) (r : Record) where
   pub pair-marked : (pairs : List ℕ) {k : ℕ} {then : List ℕ} → is_other d r ≡ true → k ≡ bit_of few r → then ≡ with_bit pairs k → then ≡ pair_marked few d r pairs
@@ -205,34 +229,20 @@ module _ (few : Bool) (d : ℕ) (r : Record) where
   unfolding pair_marked
   pair-kept pairs e = marked-no with_bit (is_other d) (bit_of few) r pairs e
 
-  pub pair-long : (pairs : List ℕ) → length (pair_marked few d r pairs) ≡ length pairs
-  unfolding pair_marked marked
-  pair-long pairs = elim (bool_cases (is_other d r)) [ inl e ↦ rw e (length-bit pairs (bit_of few r)) | inr e ↦ rw e ]
-
-  pub of-day-cancelled : is_cancelled r && eqb (key r).day d ≡ true → is_cancelled r ≡ true
-  of-day-cancelled h = (and_split (is_cancelled r) (eqb (key r).day d) h).0
-
   module _ (among : List Bool) (pairs : List ℕ) (flags : List Bool) where
-    abbrev Marked : List Bool
-    Marked = buyer_marked few d among pairs r flags
+    pub buyer-marked : {then : List Bool} → is_hit few d among pairs r ≡ true → then ≡ with_flag flags (key r).counterparty → then ≡ buyer_marked few d among pairs r flags
+    unfolding buyer_marked
+    buyer-marked e t = t ∙ marked-yes with_flag (is_hit few d among pairs) (λ x. (key x).counterparty) r flags e
 
-    pub buyer-not : is_cancelled r && eqb (key r).day d ≡ false → flags ≡ Marked
-    unfolding buyer_marked is_hit
-    buyer-not h = marked-no with_flag (is_hit few d among pairs) (λ x. (key x).counterparty) r flags (rw h)
+    pub buyer-kept : is_hit few d among pairs r ≡ false → flags ≡ buyer_marked few d among pairs r flags
+    unfolding buyer_marked
+    buyer-kept e = marked-no with_flag (is_hit few d among pairs) (λ x. (key x).counterparty) r flags e
 
-    -- past that test: the buyer's flag among some, and the bit
-    module _ (h : is_cancelled r && eqb (key r).day d ≡ true) {k : ℕ} (n : k ≡ bit_of few r) {bit : Bool} (q : bit ≡ bit_at pairs k) where
-      hit : is_hit few d among pairs r ≡ flagged among (key r).counterparty && bit
-      unfolding is_hit
-      hit = rw (h, q, n)
-
-      pub buyer-marked : {then : List Bool} → flagged among (key r).counterparty && bit ≡ true → then ≡ with_flag flags (key r).counterparty → then ≡ Marked
-      unfolding buyer_marked
-      buyer-marked e t = t ∙ marked-yes with_flag (is_hit few d among pairs) (λ x. (key x).counterparty) r flags (hit ∙ e)
-
-      pub buyer-kept : flagged among (key r).counterparty && bit ≡ false → flags ≡ Marked
-      unfolding buyer_marked
-      buyer-kept e = marked-no with_flag (is_hit few d among pairs) (λ x. (key x).counterparty) r flags (hit ∙ e)
+-- the buyer of a legal hit has a flag
+pub hit-buyer : (few : Bool) (d : ℕ) (among : List Bool) (pairs : List ℕ) (r : Record) → legal r ≡ true → is_hit few d among pairs r ≡ true → (key r).counterparty ≤ last_party
+unfolding is_hit
+hit-buyer few d among pairs r l e =
+    (paired r l (every_holds (is_cancelled r ∷ eqb (key r).day d ∷ flagged among (key r).counterparty ∷ bit_at pairs (bit_of few r) ∷ []) e).0).buyer
 
 -- the marks of entries one after the other
 module _ (few : Bool) (d : ℕ) where
@@ -246,9 +256,6 @@ module _ (few : Bool) (d : ℕ) where
 
   pub pairs-scanned : {ws pairs : List ℕ} {n i : ℕ} → Scanned (pair_marked few d) (blank (bit_words few)) ws n i pairs → length pairs ≡ bit_words few
   pairs-scanned {ws} {i = i} p = ap length p.state ∙ length_pairs (read_to ws i)
-
-  pub pairs-same : {ws blanks pairs : List ℕ} {n i : ℕ} → blanks ≡ blank (bit_words few) → Scanned (pair_marked few d) (blank (bit_words few)) ws n i pairs → length pairs ≡ length blanks
-  pairs-same e p = pairs-scanned p ∙ sym (ap length e ∙ length-words few)
 
   pub pairs-long : (rs : List Record) {pairs : List ℕ} → pairs ≡ pairs_of few d rs → length pairs ≡ bit_words few
   unfolding pairs_of
@@ -266,12 +273,8 @@ module _ (few : Bool) (d : ℕ) where
     of_buyer p r = every (is_cancelled r ∷ eqb (key r).day d ∷ eqb (key r).counterparty p ∷ any (shares_bit few d r) rs ∷ [])
 
     module _ (among : List Bool) where
-      hit-buyer : (r : Record) → legal r ≡ true → is_hit few d among (pairs_of few d rs) r ≡ true → (key r).counterparty < 1000
-      unfolding is_hit
-      hit-buyer r l e =
-          let c = (every_holds (is_cancelled r ∷ eqb (key r).day d ∷ flagged among (key r).counterparty ∷ bit_at (pairs_of few d rs) (bit_of few r) ∷ []) e).0 in
-          let p = paired r l c in
-          omega arith
+      hit-below : (r : Record) → legal r ≡ true → is_hit few d among (pairs_of few d rs) r ≡ true → (key r).counterparty < 1000
+      hit-below r l e = let h = hit-buyer few d among (pairs_of few d rs) r l e in omega arith
 
       buyers-flagged : flagged (buyers_of few d among (pairs_of few d rs) rs) ≡ likely_among few d rs among
       unfolding buyers_of buyer_marked likely_among likely_buyer is_hit
@@ -299,7 +302,7 @@ module _ (few : Bool) (d : ℕ) where
 
           at : (p : ℕ) → flagged (buyers_of few d among (pairs_of few d rs) rs) p ≡ likely_among few d rs among p
           at p =
-              over-marked with_flag (is_hit few d among (pairs_of few d rs)) (λ r. (key r).counterparty) flagged 1000 1000 length-flag flag-after hit-buyer rs no_flags p ok length-no_flags
+              over-marked with_flag (is_hit few d among (pairs_of few d rs)) (λ r. (key r).counterparty) flagged 1000 1000 length-flag flag-after hit-below rs no_flags p ok length-no_flags
               ∙ or-none _ _ (no_flag p)
               ∙ any_same legal _ _ (same p) rs ok
               ∙ any-and (flagged among p) (of_buyer p) rs
@@ -318,8 +321,8 @@ module _ (d : ℕ) (ws : List ℕ) (i : ℕ) {n : ℕ} (c : n ≡ count (is_othe
   pub others-few : n ≤ i
   others-few = omega (arith, count-le-length (is_other d) (read_to ws i), length-read i (drop 3 ws))
 
-  pub others-next : {e : Entry} {k : ℕ} → e ≡ entry_of (read_at ws i) → k ≡ cond (is_other d (record_in e)) 1 0 → n + k ≡ count (is_other d) (read_to ws (i + 1))
-  unfolding count
+  pub others-next : {e : Entry} {k : ℕ} → e ≡ entry_of (entry_at ws i) → k ≡ cond (is_other d (record_in e)) 1 0 → n + k ≡ count (is_other d) (read_to ws (i + 1))
+  unfolding count entry_at
   others-next q k = ap₂ ◌+◌ c (k ∙ ap (λ x. cond (is_other d (record_in x)) 1 0) q) ∙ sym (total-next (λ r. cond (is_other d r) 1 0) ws i)
 
   pub others-all : {last : ℕ} → last ≡ count_of ws → i ≤ last → last ≤ i → n ≡ count (is_other d) (entries ws)

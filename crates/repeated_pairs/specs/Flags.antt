@@ -10,5 +10,8 @@ flagged flags p = get_or flags p false
 unfoldable pub no_flags : List Bool
 no_flags = replicate party_places false
 
+unfoldable pub all_flags : List Bool
+all_flags = replicate party_places true
+
 abbrev pub with_flag : List Bool → ℕ → List Bool
 with_flag flags k = set flags k true

@@ -1,18 +1,13 @@
 -- Bits of pairs and flags of buyers, as the scans of a control make them of the entries.
 -- Only the contracts of internal functions cite these; the laws tie them to rules/specs/Control.
-use Rattle.std.specs.Prelude.{◌≡◌, Bool, not, cond, ◌&&◌, List, [], ◌∷◌, ℕ, ◌+◌, ◌*◌, ◌/◌, ◌%◌, ◌^◌, ◌≤◌, eqb, leb, ltb, get_or, set}
+use Rattle.std.specs.Prelude.{Bool, not, cond, ◌&&◌, List, [], ◌∷◌, ℕ, ◌+◌, ◌*◌, ◌/◌, ◌%◌, ◌^◌, ◌≤◌, eqb, get_or, set}
 use Rattle.std.specs.Int.Bits.{bit_or}
 use Rattle.numbers.specs.Tests.{every, any}
 use Rattle.calendar.specs.Calendar.{month_of}
-use Rattle.rules.specs.Entry.{Record, key, is_cancelled, last_party, last_day}
+use Rattle.rules.specs.Entry.{Record, key, is_cancelled, last_party}
 use Rattle.rules.specs.Control.{Parties}
 use Rattle.cells.specs.Cells.{over, blank}
 use Rattle.repeated_pairs.specs.Flags.{flagged, no_flags, with_flag}
-use Rattle.repeated_pairs.specs.declared.Period.{Period}
-
--- the days of the month of a day are those from the first to the next
-pub record IsPeriod (d : ℕ) (p : Period) : Type 0 where
-  pub same : (e : ℕ) → e ≤ last_day → leb p.first e && ltb e p.next ≡ eqb (month_of e) (month_of d)
 
 -- a cancelled entry of another day of the month
 unfoldable pub is_other : ℕ → Record → Bool
@@ -35,6 +30,10 @@ bit_of few r = cond few (pair_of r % 4096) (pair_of r)
 -- the words that hold the bits, 64 to a word
 abbrev pub bit_words : Bool → ℕ
 bit_words few = cond few 64 16000
+
+-- whether so many words hold few bits
+abbrev pub is_few : ℕ → Bool
+is_few words = eqb words 64
 
 unfoldable pub bit_at : List ℕ → ℕ → Bool
 bit_at words k = eqb (get_or words (k / 64) 0 / 2 ^ (k % 64) % 2) 1

@@ -1,12 +1,9 @@
--- `empty_passes::has_entry` meets its contract. The loop's invariant: none of the entries passed is one. Assumes nothing.
+-- `empty_passes::has_entry` meets its contract. The loop's invariant: the test holds of none of the entries passed. Assumes nothing.
 use mathlib.Core.Bool.{false}
-use Prim.Native.Nat.{◌-◌}
-use Rattle.cells.proofs.ScanLaws.{Scanned}
-use Rattle.empty_passes.specs.Sought.{seen}
+use Prim.Native.Nat.{ℕ, ◌<◌}
+use Rattle.rules.specs.Entry.{entry_of}
+use Rattle.cells.proofs.ScanLaws.{read_at}
 use Rattle.empty_passes.proofs.has_entry.Given as goal
 
 abbrev pub invariant-loop-i : goal.invariant-loop-i
-invariant-loop-i l = Scanned (seen l.cancelled l.day) false l.book l.count l.i false
-
-abbrev pub decreases-loop-i : goal.decreases-loop-i
-decreases-loop-i l = l.count - l.i
+invariant-loop-i g l = (k : ℕ) → k < l.i → goal.F-post g l.is_sought (entry_of (read_at l.book k)) false

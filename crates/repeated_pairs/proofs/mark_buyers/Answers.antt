@@ -1,23 +1,27 @@
-use Rattle.cells.proofs.ScanLaws.{scan}
+use mathlib.Core.Path.{◌≡◌, sym, ◌∙◌}
+use Rattle.cells.proofs.ScanLaws.{book_scan, scan-entry}
 use Rattle.repeated_pairs.specs.Pairs.{buyers_of}
-use borrow.Author.Rules.{rules}
+use Rattle.repeated_pairs.proofs.PairLaws.{words-fit, hit-buyer, buyer-marked, buyer-kept}
 use Rattle.repeated_pairs.proofs.mark_buyers.Goals as goal
-
-pub count_of-count-requires : goal.count_of-count-requires
-count_of-count-requires c = search scan
+use Rattle.repeated_pairs.proofs.mark_buyers.Goals.{then-is_hit, else-is_hit}
 
 pub loop-i-init : goal.loop-i-init
-loop-i-init c = search scan
+loop-i-init g c = search book_scan
 
-pub read_at-e-requires : goal.read_at-e-requires
-read_at-e-requires c = search scan
+pub is_hit-requires : goal.is_hit-requires
+is_hit-requires g c = (words-fit c.pairs.invariant, c.entry-e.ensures.legal)
 
-pub mark_buyer-requires : goal.mark_buyer-requires
-mark_buyer-requires c = record { e_value = search scan; pairs_len = search rules }
+pub put-requires : goal.put-requires
+put-requires g c = hit-buyer _ _ _ _ _ c.entry-e.ensures.legal (sym c.is_hit.ensures ∙ c.if-is_hit.true)
 
 pub loop-i-preserved : goal.loop-i-preserved
-loop-i-preserved c = search scan
+loop-i-preserved g c =
+    scan-entry c.count-i-end.ensures.count c.loop-i-test.true c.entry-e.ensures.entry c.loop-i.invariant
+    (elim c.if-is_hit.branch [
+      | then-is_hit w ↦ w.buyers-is ∙ buyer-marked _ _ _ _ _ _ (sym c.is_hit.ensures ∙ w.if-is_hit.true) w.put.ensures
+      | else-is_hit w ↦ w.buyers-is ∙ buyer-kept _ _ _ _ _ _ (sym c.is_hit.ensures ∙ w.if-is_hit.false)
+    ])
 
 pub returns : goal.returns
 unfolding buyers_of
-returns c = search scan
+returns g c = search book_scan

@@ -9,9 +9,8 @@ use Rattle.rules.proofs.WordLaws.{book-facts}
 use Rattle.words.proofs.BookCode.{Placed, book-long}
 use Rattle.cells.proofs.ScanLaws.{scan-few, scan-end}
 use Rattle.repeated_pairs.specs.Flags.{flagged}
-use Rattle.repeated_pairs.proofs.PairLaws.{one-most}
+use Rattle.repeated_pairs.proofs.FlagLaws.{byte-is}
 use Rattle.control.proofs.CancelLaws.{through-none, through-all, through-placed, through-party, through_read, through-cancelled, through-kept, count-more, count-few}
-use borrow.Author.Rules.{rules}
 use Rattle.control.proofs.passes.cancel.Goals as goal
 use Rattle.control.proofs.passes.cancel.Goals.{In-loop-i, then-cancelled, else-cancelled}
 
@@ -27,7 +26,7 @@ count_of-count-requires c = search book-long
 
 pub loop-i-init : goal.loop-i-init
 unfolding count total
-loop-i-init c = (search rules, search through-none, refl)
+loop-i-init c = (search through-none, refl)
 
 pub read_at-e-requires : goal.read_at-e-requires
 read_at-e-requires c = (placed (goal.at.read_at-e-requires c).In-loop-i).within
@@ -46,7 +45,7 @@ overflow_add-n c =
     let a = c.args in
     let n = count-few (is_to_cancel (flagged a.flags.now) a.day) c.loop-i.i (entries a.book.now) in
     let i = taken (goal.at.overflow_add-n c).In-loop-i in
-    omega (arith, c.loop-i.invariant, n, i, scan-few a.book.now c.requires, one-most c.is_to_cancel-cancelled.result c.one_if-n.ensures)
+    omega (arith, c.loop-i.invariant, n, i, scan-few a.book.now c.requires, byte-is c.is_to_cancel-cancelled.result, c.from-n.ensures)
 
 pub loop-i-preserved : goal.loop-i-preserved
 loop-i-preserved c =
@@ -56,20 +55,19 @@ loop-i-preserved c =
     let q = c.read_at-e.ensures in
     let t = c.is_to_cancel-cancelled.ensures in
     let i = taken (goal.at.loop-i-preserved c).In-loop-i in
-    let r = through_read _ _ _ b _ i _ v.1 _ q in
+    let r = through_read _ _ _ b _ i _ v.0 _ q in
     let m = count-more (flagged a.flags.now) a.day c.loop-i.i (entries a.book.now) (rw (book-facts a.book.now b).count i) in (
-      omega arith,
       elim c.if-cancelled.branch [
-        | then-cancelled w ↦ w.book-is ∙ through-cancelled _ _ _ b _ i _ v.1 _ q (sym t ∙ w.if-cancelled.true) w.set_status.ensures
-        | else-cancelled w ↦ w.book-is ∙ through-kept _ _ _ b _ i _ v.1 _ q (sym t ∙ w.if-cancelled.false)
+        | then-cancelled w ↦ w.book-is ∙ through-cancelled _ _ _ b _ i _ v.0 _ q (sym t ∙ w.if-cancelled.true) w.set_status.ensures
+        | else-cancelled w ↦ w.book-is ∙ through-kept _ _ _ b _ i _ v.0 _ q (sym t ∙ w.if-cancelled.false)
       ],
-      ap₂ ◌+◌ v.2 (c.one_if-n.ensures ∙ ap {B = ℕ} (λ y. cond y 1 0) (t ∙ ap (is_to_cancel (flagged a.flags.now) a.day) r)) ∙ sym m,
+      ap₂ ◌+◌ v.1 (c.from-n.ensures ∙ (byte-is c.is_to_cancel-cancelled.result).0 ∙ ap {B = ℕ} (λ y. cond y 1 0) (t ∙ ap (is_to_cancel (flagged a.flags.now) a.day) r)) ∙ sym m,
     )
 
 pub returns-clause-cancelled : goal.returns-clause-cancelled
 returns-clause-cancelled c =
-    let h = rw c.count_of-count.ensures at c.loop-i-test.false in c.loop-i.invariant.2 ∙ rw (scan-end _ c.requires _ h)
+    let h = rw c.count_of-count.ensures at c.loop-i-test.false in c.loop-i.invariant.1 ∙ rw (scan-end _ c.requires _ h)
 
 pub returns-clause-words : goal.returns-clause-words
 returns-clause-words c =
-    let h = rw c.count_of-count.ensures at c.loop-i-test.false in through-all _ _ _ c.requires _ _ h c.loop-i.invariant.1
+    let h = rw c.count_of-count.ensures at c.loop-i-test.false in through-all _ _ _ c.requires _ _ h c.loop-i.invariant.0

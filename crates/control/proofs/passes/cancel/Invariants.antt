@@ -1,6 +1,5 @@
 -- `control::passes::cancel` meets its contract. The loop's invariant: the entries passed are as the pass leaves them, the others as they were. Assumes nothing.
 use mathlib.Core.Path.{◌≡◌}
-use Prim.Native.Nat.{◌-◌, ◌≤◌}
 use lib.ListN.{take}
 use Rattle.numbers.specs.Sums.{count}
 use Rattle.rules.specs.Words.{entries}
@@ -11,7 +10,4 @@ use Rattle.control.proofs.passes.cancel.Given as goal
 
 abbrev pub invariant-loop-i : goal.invariant-loop-i
 invariant-loop-i l =
-    (l.i ≤ l.count) × Through (flagged l.flags) l.day l.initial.book l.i l.book × (l.n ≡ count (is_to_cancel (flagged l.flags) l.day) (take l.i (entries l.initial.book)))
-
-abbrev pub decreases-loop-i : goal.decreases-loop-i
-decreases-loop-i l = l.count - l.i
+    Through (flagged l.flags) l.day l.initial.book l.i l.book × (l.n ≡ count (is_to_cancel (flagged l.flags) l.day) (take l.i (entries l.initial.book)))

@@ -1,0 +1,25 @@
+use native.Mathlib.Omega.{arith}
+use Rattle.repeated_pairs.proofs.FlagLaws.{below-start, below_set, below-skip, below_end}
+use Rattle.detection.proofs.BelowLaws.{detected-none, detected-past, detected-asked, detected-not_asked}
+use Rattle.detection.proofs.sums.Table.flag_detected.Goals as goal
+use Rattle.detection.proofs.sums.Table.flag_detected.Goals.{then-has, else-has}
+
+pub loop-p-init : goal.loop-p-init
+loop-p-init c = let a = c.args in below-start _ _ c.none-flags.ensures (detected-none a.self.now a.coefficient a.tolerance a.among.now)
+
+pub loop-p-preserved : goal.loop-p-preserved
+loop-p-preserved c =
+    let a = c.args in
+    let b = c.loop-p.invariant in
+    elim c.if-has.branch [
+      | then-has w ↦
+          rw w.flags-is (rw w.put.ensures (below_set _ c.loop-p.p c.loop-p.flags b w.is_detected.result (omega arith)
+          (detected-asked a.self.now a.coefficient a.tolerance a.among.now c.loop-p.p w.is_detected.result (rw c.has.ensures at w.if-has.true) (omega arith) (omega arith) w.is_detected.ensures)))
+      | else-has w ↦
+          rw w.flags-is (below-skip _ c.loop-p.p c.loop-p.flags b (detected-not_asked a.self.now a.coefficient a.tolerance a.among.now c.loop-p.p (rw c.has.ensures at w.if-has.false)))
+    ]
+
+pub returns : goal.returns
+returns c =
+    let a = c.args in
+    below_end _ c.loop-p.p c.loop-p.flags c.loop-p.invariant c.loop-p-test.false (detected-past a.self.now a.coefficient a.tolerance a.among.now)
