@@ -1,5 +1,5 @@
 -- The month after each digit is the month that the whole number names. Assumes nothing.
-use Rattle.std.specs.Prelude.{MatchOption, Option, None, Some}
+use Rattle.std.specs.Prelude.{MatchOption, None, Some}
 use mathlib.Core.Path.{◌≡◌, refl, ap}
 use mathlib.Core.Bool.{Bool, true, false, cond}
 use mathlib.Core.List.{List, [], ◌∷◌}

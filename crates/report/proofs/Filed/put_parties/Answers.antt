@@ -19,9 +19,9 @@ loop-party-preserved c =
     puts_past _ 1 p (omega arith) c.loop-party.invariant (elim c.if-parties-party.branch [
       | then-parties-party w ↦ rw w.out-is w.put_party.ensures
       | else-parties-party w ↦ (
-        let marked = c.mark_parties.ensures p (rw length-replicate h) ∙ rw (get_or-replicate 1000 p false false h) in
-        rw (w.out-is, no_lines c.args.self.now.file.now c.args.self.now.book.now p (sym marked ∙ w.if-parties-party.false)) (puts_none _)
-      )
+          let marked = c.mark_parties.ensures p (rw length-replicate h) ∙ rw (get_or-replicate 1000 p false false h) in
+          rw (w.out-is, no_lines c.args.self.now.file.now c.args.self.now.book.now p (sym marked ∙ w.if-parties-party.false)) (puts_none _)
+          )
     ])
 
 pub returns : goal.returns
