@@ -1,7 +1,7 @@
 -- Trading and the total of a case over a book's entries, and the answer by its cause. Assumes nothing.
 use mathlib.Core.Path.{◌≡◌, sym, ◌∙◌}
 use mathlib.Core.Bool.{true, cond, ◌&&◌}
-use mathlib.Core.List.{List, [], ◌∷◌}
+use mathlib.Core.List.{List}
 use Prim.Native.Nat.{ℕ, ◌+◌, ◌*◌, max, ◌≤◌}
 use native.Mathlib.Nat.{mul-le-mul}
 use native.Mathlib.Omega.{arith}
@@ -9,14 +9,16 @@ use lib.Dec.{eqb, ltb}
 use lib.ListN.{length}
 use Rattle.numbers.specs.Causes.{unless}
 use Rattle.numbers.specs.Rounding.{round_up}
-use Rattle.numbers.proofs.CauseLaws.{unless-zero, clear-all, done-else}
-use Rattle.rules.specs.Entry.{party_ok, day_ok}
+use Rattle.numbers.proofs.CauseLaws.{else-stop, else-none, done-else}
+use Rattle.rules.specs.Refusals.{number_of}
 use Rattle.rules.specs.Words.{is_book, entries}
 use Rattle.rules.specs.Balance.{party_day_cause}
 use Rattle.rules.specs.Collateral.{trading_days, money_of, debts, debt, quarters, margin, trading, imbalance, risk, yek, total_of, figures_ok, collateral_cause, collateral_of, collateral_answer, refused_collateral}
 use Rattle.case_figures.specs.declared.Case.{Case}
 use Rattle.rules.specs.declared.Collateral.{Collateral}
+use Rattle.rules.specs.declared.refusal.Refusal.{Refusal}
 use Rattle.rules.proofs.WordLaws.{book-facts}
+use Rattle.rules.proofs.RefusalLaws.{number-not_zero}
 use Rattle.rules.proofs.Limits.{case-ranges, debt-sum, trading-product, total-limit}
 
 few-entries : (ws : List ℕ) → is_book ws ≡ true → length (entries ws) ≤ 3072
@@ -61,22 +63,21 @@ module _ (c : Case) (ws : List ℕ) (b : is_book ws ≡ true) (f : figures_ok c 
   unfolding collateral_of
   items-are = rw (total-is, em, et, ei, er, ey)
 
--- a case that no cause refuses, and one that a cause refuses
-pub record Allowed (ws : List ℕ) (c : Case) : Type 0 where
-  pub is-book : is_book ws ≡ true
-  pub figures : figures_ok c ≡ true
+-- the answer by its cause
+module _ (ws : List ℕ) (c : Case) where
+  refused : (e : Refusal) → number_of e ≡ collateral_cause ws c → refused_collateral (number_of e) ≡ collateral_answer ws c
+  unfolding collateral_answer
+  refused e q =
+      rw (← q) (sym (done-else (number_of e) (collateral_of c (entries ws)) (refused_collateral (number_of e)) (number-not_zero e)))
 
-pub allowed : (ws : List ℕ) (c : Case) → collateral_cause ws c ≡ 0 → Allowed ws c
-unfolding collateral_cause party_day_cause
-allowed ws c e =
-    let h = clear-all (party_day_cause ws c.asked.party c.asked.day ∷ unless (figures_ok c) 12 ∷ []) e in
-    let p = clear-all (unless (is_book ws) 1 ∷ unless (party_ok c.asked.party) 3 ∷ unless (day_ok c.asked.day) 4 ∷ []) h.0 in
-    record { is-book = unless-zero _ 0 p.0; figures = unless-zero _ 11 h.1.0 }
+  pub not-asked : (e : Refusal) → number_of e ≡ party_day_cause ws c.asked.party c.asked.day → refused_collateral (number_of e) ≡ collateral_answer ws c
+  unfolding collateral_cause
+  not-asked e q = refused e (rw (← q) (sym (else-stop _ _ (number-not_zero e))))
 
-pub answer-done : (ws : List ℕ) (c : Case) {k : ℕ} {r : Collateral} → k ≡ collateral_cause ws c → k ≡ 0 → r ≡ collateral_of c (entries ws) → r ≡ collateral_answer ws c
-unfolding collateral_answer
-answer-done ws c e z q = q ∙ sym (rw (← e, z))
+  pub out_of_range : (e : Refusal) → 0 ≡ party_day_cause ws c.asked.party c.asked.day → number_of e ≡ unless (figures_ok c) 12 → refused_collateral (number_of e) ≡ collateral_answer ws c
+  unfolding collateral_cause
+  out_of_range e n q = refused e (rw (← n, ← q) (sym (else-none _)))
 
-pub answer-refused : (ws : List ℕ) (c : Case) {k : ℕ} → k ≡ collateral_cause ws c → (k ≡ 0 → ⊥) → refused_collateral k ≡ collateral_answer ws c
-unfolding collateral_answer
-answer-refused ws c {k} e n = rw (← e) (sym (done-else k (collateral_of c (entries ws)) (refused_collateral k) n))
+  pub answer-done : {r : Collateral} → 0 ≡ party_day_cause ws c.asked.party c.asked.day → 0 ≡ unless (figures_ok c) 12 → r ≡ collateral_of c (entries ws) → r ≡ collateral_answer ws c
+  unfolding collateral_answer collateral_cause
+  answer-done n m q = q ∙ sym (rw (← n, ← m))

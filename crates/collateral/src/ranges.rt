@@ -1,16 +1,26 @@
 // The ranges of a case's figures (01, 'Collateral').
-ghost use Rattle.std.specs.Prelude.{◌≡◌};
+ghost use Rattle.std.specs.Prelude.{◌≡◌, true, IfOk};
+ghost use Rattle.numbers.specs.Causes.{unless};
+ghost use Rattle.rules.specs.Refusals.{answer_of, bad_figure};
 ghost use Rattle.rules.specs.Collateral.{figures_ok};
 
 use crate::months;
 use case_figures::Case;
+use rules::Refusal;
+
+// A case whose figures are in their ranges.
+#[derive(Clone, Copy)]
+pub struct CheckedCase {
+    pub case: Case,
+    ghost in_range: { figures_ok case ≡ true },
+}
 
 // All figures are held to their ranges, month answers only if used.
 #[tactic(auto, unfolding(rules::specs::Collateral::figures_ok))]
-pub fn figures_ok(case: Case) -> bool
-    ensures { result ≡ figures_ok case }
+fn figures_ok(case: &Case) -> bool
+    ensures { result ≡ figures_ok case.now }
 {
-    let group = case.group;
+    let group = &case.group;
     (case.margin.licence <= 2)
         & (case.trading.holiday <= 1)
         & (group.responsible <= 1)
@@ -24,4 +34,16 @@ pub fn figures_ok(case: Case) -> bool
         & (case.yek.yt <= 100000000000000)
         & ((1 <= case.yek.best) & (case.yek.best <= 10000))
         & (case.yek.score <= case.yek.best)
+}
+
+impl CheckedCase {
+    pub fn of(case: Case) -> Result<CheckedCase, Refusal>
+        ensures answer { answer_of result ≡ unless (figures_ok case) bad_figure }
+        ensures case { IfOk result (λ checked. checked.case ≡ case) }
+    {
+        if !figures_ok(&case) {
+            return Err(Refusal::BadFigure);
+        }
+        Ok(CheckedCase { case })
+    }
 }

@@ -1,8 +1,8 @@
 // Internal: the debts of the latest days that each market chooses (01, 'Collateral', Trading).
 #![tactic(auto)]
 
-ghost use Rattle.std.specs.Prelude.{◌≡◌, cond, ◌+◌, ◌-◌, ◌*◌, ◌≤◌, get_or};
-ghost use Rattle.rules.specs.Words.{entries};
+ghost use Rattle.std.specs.Prelude.{◌≡◌, true, cond, ◌+◌, ◌-◌, ◌*◌, ◌≤◌, get_or};
+ghost use Rattle.rules.specs.Words.{is_book, entries};
 ghost use Rattle.rules.specs.Collateral.{debts, money_of};
 ghost use Rattle.trading_debts.specs.Window.{most_in_cell, money_in};
 ghost use Rattle.trading_debts.specs.Walk.{chosen, left_after, owed};
@@ -105,9 +105,10 @@ fn debts_of(window: &Window, day: u32, k: u32) -> u64
     walk.debt
 }
 
-// D of a party on day g, with k days a market.
+// D of a party on day g, with k days a market. A caller learns that the book is one.
 pub fn debt_of(book: &Book<'_>, party: u32, day: u32, k: u32) -> u64
-    ensures { result ≡ debts (money_of party (entries book.now)) 30 day k k }
+    ensures debt { result ≡ debts (money_of party (entries book.now)) 30 day k k }
+    ensures book { is_book book.now ≡ true }
 {
     debts_of(&Window::of(book, party, day), day, k)
 }

@@ -1,7 +1,7 @@
 // Internal: the money of a party on the 30 days before day g, in a table of days and types (01, 'Collateral', Trading). A caller meets each `requires`.
-ghost use Rattle.std.specs.Prelude.{◌≡◌, ◌≤◌, ◌<◌, MatchOption};
+ghost use Rattle.std.specs.Prelude.{◌≡◌, true, ◌≤◌, ◌<◌, MatchOption};
 ghost use Rattle.rules.specs.Entry.{most_money};
-ghost use Rattle.rules.specs.Words.{entries};
+ghost use Rattle.rules.specs.Words.{is_book, entries};
 ghost use Rattle.entry_words.specs.Words.{entry_in};
 ghost use Rattle.cells.specs.Cells.{added, AtMost};
 ghost use Rattle.trading_debts.specs.Window.{most_in_cell, cell_count, cell_of, window_cells, window_of};
@@ -54,9 +54,10 @@ fn add_entry(cells: &mut [u64; CELLS], e: EntryWords, party: u32, day: u32)
 }
 
 impl Window {
-    // The sums of a party's money on each day of the window, by one pass over the book.
+    // The sums of a party's money on each day of the window, by one pass over the book. A caller learns that it is a book.
     pub fn of(book: &Book<'_>, party: u32, day: u32) -> Window
-        ensures { result.cells ≡ window_of party day (entries book.now) }
+        ensures cells { result.cells ≡ window_of party day (entries book.now) }
+        ensures book { is_book book.now ≡ true }
     {
         let mut cells = [0u64; CELLS];
         for i in 0..book.count() {

@@ -1,26 +1,21 @@
 -- `collateral::collateral` meets its contract. Assumes nothing.
-use mathlib.Core.Path.{sym, ◌∙◌}
-use Rattle.collateral.proofs.CaseLaws.{allowed, answer-done, answer-refused}
+use Rattle.std.proofs.lemmas.Result.{err_from_is_err_and}
+use Rattle.collateral.proofs.CaseLaws.{not-asked, out_of_range, answer-done}
 use Rattle.collateral.proofs.collateral.Goals as goal
 
-pub returns-then-cause-ne0 : goal.returns-then-cause-ne0
-returns-then-cause-ne0 c =
+pub returns-in_err-checked : goal.returns-in_err-checked
+returns-in_err-checked c =
     let a = c.args in
-    answer-refused a.book.now a.case c.cause_of-cause.ensures c.if-cause-ne0.true
+    let p = err_from_is_err_and c.from_residual.result c.from_residual.ensures.1 in
+    rw (p.1, p.2) (not-asked a.book.now a.case _ c.in_err-checked.ensures.answer)
 
-pub collateral_of-requires-clause-book_value : goal.collateral_of-requires-clause-book_value
-collateral_of-requires-clause-book_value c =
+pub returns-in_err-of : goal.returns-in_err-of
+returns-in_err-of c =
     let a = c.args in
-    let k = allowed a.book.now a.case (sym c.cause_of-cause.ensures ∙ c.if-cause-ne0.false) in
-    k.is-book
-
-pub collateral_of-requires-clause-case_value : goal.collateral_of-requires-clause-case_value
-collateral_of-requires-clause-case_value c =
-    let a = c.args in
-    let k = allowed a.book.now a.case (sym c.cause_of-cause.ensures ∙ c.if-cause-ne0.false) in
-    k.figures
+    let p = err_from_is_err_and c.from_residual-in_err-of.result c.from_residual-in_err-of.ensures.1 in
+    rw (p.1, p.2) (out_of_range a.book.now a.case _ c.in_ok-checked.ensures.answer c.in_err-of.ensures.answer)
 
 pub returns : goal.returns
 returns c =
     let a = c.args in
-    answer-done a.book.now a.case c.cause_of-cause.ensures c.if-cause-ne0.false c.collateral_of.ensures
+    answer-done a.book.now a.case c.in_ok-checked.ensures.answer c.in_ok-of.ensures.answer (rw (c.in_ok-of.ensures.case, c.in_ok-checked.ensures.ok) at c.items.ensures)

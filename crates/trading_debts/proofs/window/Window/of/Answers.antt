@@ -30,6 +30,6 @@ pub invariant_of-result : goal.invariant_of-result
 invariant_of-result c =
     record { within = scan-below c.args.book.now c.count-i-end.ensures.book 120 (window-limited c.args.party c.args.day) refl c.loop-i.invariant }
 
-pub returns : goal.returns
+pub returns-clause-cells : goal.returns-clause-cells
 unfolding window_of filled
-returns c = scan-done refl (omega arith) c.loop-i.invariant
+returns-clause-cells c = scan-done refl (omega arith) c.loop-i.invariant
