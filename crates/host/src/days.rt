@@ -5,7 +5,6 @@ ghost use Rattle.rules.specs.Calls.{words_after, control_answer, file_answer};
 ghost use Rattle.rules.specs.Calls as calls;
 ghost use Rattle.word_bytes.specs.Bytes.{on_words, with_words};
 
-use byte_changes::Request;
 use rules::{Controlled, FileRead};
 
 // Posts the lines of a file: all of them or none.
@@ -23,11 +22,5 @@ pub extern "C" fn fanzsoreb_control(book: &mut [u8], day: u32) -> Controlled
     ensures answer { result ≡ on_words book.old (λ ws. control_answer ws day) (record { answer = not_a_book; first = 0; second = 0; cancelled = 0 }) }
     ensures bytes { book.new ≡ with_words book.old (λ ws. words_after ws (calls.control day)) }
 {
-    let done = byte_changes::change(book, Request::Control(day));
-    Controlled {
-        answer: done.answer,
-        first: done.first,
-        second: done.second,
-        cancelled: done.cancelled,
-    }
+    byte_changes::control(book, day)
 }
