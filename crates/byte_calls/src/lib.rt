@@ -2,15 +2,15 @@
 // function with a `requires` meets it.
 #![tactic(auto)]
 
-ghost use Rattle.std.specs.Prelude.{◌≡◌, ◌≤◌, ℕ};
+ghost use Rattle.std.specs.Prelude.{◌≤◌};
 ghost use Rattle.std.specs.Fn.{FnOnceReturnsAt, FnOnceReturnsAtMut};
 ghost use Rattle.byte_calls.specs.Calls.{CanAsk, Asked, Changed};
 ghost use Rattle.rules.specs.Words.{book_words, used_with};
 ghost use Rattle.rules.specs.DayFile.{words_of};
 ghost use Rattle.word_bytes.specs.Coding.{needed_for, words_in};
 
+use rules::Refusal;
 use rules::layout::BOOK_WORDS;
-use rules::{Controlled, FileRead, Posted};
 use sizes::{MIDDLE_WORDS, SMALL_WORDS, WIDE_WORDS};
 
 mod sizes;
@@ -58,83 +58,43 @@ pub fn ask<R, F: FnOnce(&[u32]) -> R>(book: &[u8], f: F) -> R
     ask_with(book, &mut (), |words, _| f(words))
 }
 
-// What a call that changes a book answers.
-pub trait Answer {
-    // Its cause: 0 where it was done.
-    ghost cause: { Self → ℕ };
-
-    fn cause(&self) -> u32
-        ensures { result ≡ cause self.now };
-}
-
-impl Answer for u32 {
-    ghost cause = { λ it. it };
-
-    fn cause(&self) -> u32 {
-        *self
-    }
-}
-
-impl Answer for Posted {
-    ghost cause = { λ it. it.answer };
-
-    fn cause(&self) -> u32 {
-        let Posted { answer, .. } = *self;
-        answer
-    }
-}
-
-impl Answer for Controlled {
-    ghost cause = { λ it. it.answer };
-
-    fn cause(&self) -> u32 {
-        let Controlled { answer, .. } = *self;
-        answer
-    }
-}
-
-impl Answer for FileRead {
-    ghost cause = { λ it. it.answer };
-
-    fn cause(&self) -> u32 {
-        let FileRead { answer, .. } = *self;
-        answer
-    }
-}
-
 // The call on the words that count, in an array of N; those that a done call left go back to the bytes.
 #[inline(never)]
-fn change_in<const N: usize, R: Answer, F: FnOnce(&mut [u32]) -> R>(
+fn change_in<const N: usize, T, F: FnOnce(&mut [u32]) -> Result<T, Refusal>>(
     book: &mut [u8],
     places: usize,
     f: F,
-) -> R
+) -> Result<T, Refusal>
     requires fits { needed_for places book.old ≤ N }
     requires most { N ≤ book_words }
     requires callable { F.IsAlwaysCallable f }
-    ensures { Changed R.cause (FnOnceReturnsAtMut F.FnOnce f) (words_in (used_with places (words_of book.old)) book.old) result book.old book.new }
+    ensures { Changed (FnOnceReturnsAtMut F.FnOnce f) (words_in (used_with places (words_of book.old)) book.old) result book.old book.new }
 {
     let mut words = [0u32; N];
     let n = word_bytes::decode(book, places, &mut words);
     let answer = f(&mut words[..n]);
-    word_bytes::write_back(answer.cause(), &words[..n], book);
+    word_bytes::write_back(&answer, &words[..n], book);
     answer
 }
 
 // Any call that changes a book and adds so many entries at most.
-pub fn change<R: Answer, F: FnOnce(&mut [u32]) -> R>(book: &mut [u8], places: usize, f: F) -> R
+pub fn change<T, F: FnOnce(&mut [u32]) -> Result<T, Refusal>>(
+    book: &mut [u8],
+    places: usize,
+    f: F,
+) -> Result<T, Refusal>
     requires { F.IsAlwaysCallable f }
-    ensures { Changed R.cause (FnOnceReturnsAtMut F.FnOnce f) (words_in (used_with places (words_of book.old)) book.old) result book.old book.new }
+    ensures { Changed (FnOnceReturnsAtMut F.FnOnce f) (words_in (used_with places (words_of book.old)) book.old) result book.old book.new }
 {
     let n = word_bytes::needed(book, places);
     if n <= SMALL_WORDS {
-        return change_in::<SMALL_WORDS, R, F>(book, places, f);
+        return change_in::<SMALL_WORDS, T, F>(book, places, f);
     }
     if n <= MIDDLE_WORDS {
-        return change_in::<MIDDLE_WORDS, R, F>(book, places, f);
+        return change_in::<MIDDLE_WORDS, T, F>(book, places, f);
     }
     if n <= WIDE_WORDS {
-        return change_in::<WIDE_WORDS, R, F>(book, places, f);
+        return change_in::<WIDE_WORDS, T, F>(book, places, f);
     }
-    change_in::<BOOK_WORDS, R, F>(book, places, f)
+    change_in::<BOOK_WORDS, T, F>(book, places, f)
 }

@@ -4,10 +4,12 @@
 ghost use Rattle.std.specs.Prelude.{◌≡◌, ◌+◌, ◌*◌, ◌<◌, ◌≤◌, min, [], ◌∷◌, ◌++◌, length, take, drop};
 ghost use Rattle.rules.specs.Words.{values, count_of, book_words, used_with};
 ghost use Rattle.numbers.specs.Causes.{if_done};
+ghost use Rattle.rules.specs.Refusals.{answer_of};
 ghost use Rattle.rules.specs.DayFile.{words_of};
 ghost use Rattle.word_bytes.specs.Bytes.{bytes_of, is_whole};
 ghost use Rattle.word_bytes.specs.Coding.{word_at, over_bytes, count_in, needed_for, Decoded};
 
+use rules::Refusal;
 use rules::bounds::MOST_ENTRIES;
 use rules::layout::{BOOK_WORDS, ENTRY_WORDS, HEAD_WORDS, KIND};
 
@@ -141,14 +143,14 @@ fn store(words: &[u32], bytes: &mut [u8])
 }
 
 // The words that a done call left go back to the book's bytes; a refused one writes nothing.
-pub fn write_back(answer: u32, words: &[u32], bytes: &mut [u8])
+pub fn write_back<T>(answer: &Result<T, Refusal>, words: &[u32], bytes: &mut [u8])
     requires { 4 * length words.now ≤ length bytes.old }
-    ensures { bytes.new ≡ if_done answer (over_bytes words.now bytes.old) bytes.old }
+    ensures { bytes.new ≡ if_done (answer_of answer.now) (over_bytes words.now bytes.old) bytes.old }
 {
-    if answer != 0 {
+    if answer.is_err() {
         return;
     }
-    if words.len() != 0 {
+    if !words.is_empty() {
         store(words, bytes);
     }
 }
