@@ -13,7 +13,7 @@ pub extern "C" fn fanzsoreb_read_file(book: &mut [u8], file: &[u8]) -> FileRead
     ensures answer { result ≡ on_words book.old (λ ws. file_answer ws file.now) (record { answer = not_a_book; posted = 0 }) }
     ensures bytes { book.new ≡ with_words book.old (λ ws. words_after ws (calls.file file.now)) }
 {
-    byte_files::read(book, file)
+    byte_files::read(book, file).into()
 }
 
 // Cancels the bilateral sales of detected parties and closes the day.
@@ -22,5 +22,5 @@ pub extern "C" fn fanzsoreb_control(book: &mut [u8], day: u32) -> Controlled
     ensures answer { result ≡ on_words book.old (λ ws. control_answer ws day) (record { answer = not_a_book; first = 0; second = 0; cancelled = 0 }) }
     ensures bytes { book.new ≡ with_words book.old (λ ws. words_after ws (calls.control day)) }
 {
-    byte_changes::control(book, day)
+    byte_changes::control(book, day).into()
 }

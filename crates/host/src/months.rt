@@ -15,5 +15,5 @@ pub extern "C" fn fanzsoreb_month(
 ) -> MonthAnswer
     ensures { result ≡ month_on_bytes prices.now imbalance.now rows dm.now group }
 {
-    month_bytes::month_on(prices, imbalance, rows, dm, group)
+    month_bytes::month_on(prices, imbalance, rows, dm, group).into()
 }

@@ -11,7 +11,7 @@ use rules::{BalanceAnswer, TallyAnswer};
 pub extern "C" fn fanzsoreb_tally(book: &[u8], party: u32, day: u32) -> TallyAnswer
     ensures { result ≡ on_words book.now (λ ws. tally_answer ws party day) (record { answer = not_a_book; tally = no_tally; bought = 0 }) }
 {
-    byte_questions::tally(book, party, day)
+    byte_questions::tally(book, party, day).into()
 }
 
 // The day-ahead balance, in hundredths of a kWh (document 004, Article 7).
@@ -19,7 +19,7 @@ pub extern "C" fn fanzsoreb_tally(book: &[u8], party: u32, day: u32) -> TallyAns
 pub extern "C" fn fanzsoreb_day_ahead(book: &[u8], party: u32, day: u32) -> BalanceAnswer
     ensures { result ≡ on_words book.now (λ ws. balance_answer day_ahead ws party day) (record { answer = not_a_book; balance = pos 0 }) }
 {
-    byte_questions::day_ahead(book, party, day)
+    byte_questions::day_ahead(book, party, day).into()
 }
 
 // The delivery balance, in hundredths of a kWh (document 004, Article 5).
@@ -27,7 +27,7 @@ pub extern "C" fn fanzsoreb_day_ahead(book: &[u8], party: u32, day: u32) -> Bala
 pub extern "C" fn fanzsoreb_delivery(book: &[u8], party: u32, day: u32) -> BalanceAnswer
     ensures { result ≡ on_words book.now (λ ws. balance_answer delivery ws party day) (record { answer = not_a_book; balance = pos 0 }) }
 {
-    byte_questions::delivery(book, party, day)
+    byte_questions::delivery(book, party, day).into()
 }
 
 // 1 if a balance is detected, else 0.
@@ -35,5 +35,5 @@ pub extern "C" fn fanzsoreb_delivery(book: &[u8], party: u32, day: u32) -> Balan
 pub extern "C" fn fanzsoreb_detected(balance: i64) -> u32
     ensures { result ≡ yes_no (is_detected balance) }
 {
-    u32::from(position::detected(balance))
+    position::detected(balance).into()
 }

@@ -8,4 +8,4 @@ use Rattle.host.proofs.books.fanzsoreb_is_book.Goals as goal
 
 pub returns : goal.returns
 returns c =
-    c.from.ensures ∙ yes-byte _ ∙ ap yes_no c.is_book.ensures ∙ on-figure c.args.book.now yes_no is_book false
+    c.into.ensures ∙ yes-byte _ ∙ ap yes_no c.is_book.ensures ∙ on-figure c.args.book.now yes_no is_book false
