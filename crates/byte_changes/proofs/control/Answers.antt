@@ -6,6 +6,7 @@ use Rattle.rules.specs.Calls.{control, control_answer}
 use Rattle.rules.specs.Answers.{controlled_of}
 use Rattle.rules.proofs.ChangeLaws.{adds}
 use Rattle.word_bytes.proofs.CallLaws.{words_read, on-change, change-bytes}
+use Rattle.byte_changes.proofs.AnswerLaws.{control-cause}
 use Rattle.byte_changes.proofs.control.Goals as goal
 
 pub returns-clause-answer : goal.returns-clause-answer
@@ -21,4 +22,4 @@ returns-clause-bytes c =
     let call = control c.args.day in
     let e = c.change.ensures in
     let a : controlled_of c.change.result ≡ control_answer (words_read 1 c.args.book.now) c.args.day = search rules in
-    e.written ∙ change-bytes 1 c.args.book.now call (omega arith) e.are-bytes e.long (search rules) (ap (λ r. r.answer) a)
+    e.written ∙ change-bytes 1 c.args.book.now call (omega arith) e.are-bytes e.long (search rules) (control-cause c.change.result ∙ ap (λ r. r.answer) a)
