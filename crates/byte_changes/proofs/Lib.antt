@@ -1,1 +1,1 @@
-pub mod ActLaws
+pub mod AnswerLaws

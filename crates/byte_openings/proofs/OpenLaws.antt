@@ -13,7 +13,7 @@ use Rattle.rules.specs.Refusals.{not_a_book, bad_length, bad_figure}
 use Rattle.rules.specs.DayFile.{words_of}
 use Rattle.rules.specs.Book.{open_cause, open_words}
 use Rattle.rules.proofs.BookLaws.{open-limits, open-refused}
-use Rattle.opening.proofs.Opened.{open-refuses, open-leaves}
+use Rattle.opening.proofs.Opened.{open-leaves}
 use Rattle.word_bytes.specs.Bytes.{bytes_of, is_whole, on_words, with_words}
 use Rattle.word_bytes.proofs.BytesLaws.{Bytes, length-words, bytes_whole, put_step}
 
@@ -36,11 +36,11 @@ module _ (bs : List ℕ) (R TM : ℕ) where
     unfolding on_words
     on-cause = rw (whole, length-words bs)
 
-    pub open_none : {answer : ℕ} → answer ≡ cond (leb 3 (length bs / 4)) bad_figure bad_length → eqb (open_cause (length bs / 4) R TM) 0 ≡ false → Opened bs R TM answer bs
+    pub open_none : {answer : ℕ} → answer ≡ open_cause (length bs / 4) R TM → answer ≢ 0 → Opened bs R TM answer bs
     unfolding with_words
     open_none e h =
-        let z : open_cause (length (words_of bs)) R TM ≢ 0 = rw (length-words bs) (eqb-false _ _ h) in
-        (e ∙ open-refuses (length bs / 4) R TM h ∙ on-cause, rw whole (same ∙ ap bytes_of (sym (open-refused (words_of bs) R TM z))))
+        let z : open_cause (length (words_of bs)) R TM ≢ 0 = rw (length-words bs, ← e) h in
+        (e ∙ on-cause, rw whole (same ∙ ap bytes_of (sym (open-refused (words_of bs) R TM z))))
 
     -- the three words put, that with the count last
     pub open-put : {cs ds es : List ℕ} → open_cause (length bs / 4) R TM ≡ 0 →

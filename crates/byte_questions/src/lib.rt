@@ -1,157 +1,48 @@
-// Internal: questions about a book in lent bytes: the number of entries, one entry, a tally, a balance. The caller of each
-// function with a `requires` meets it.
+// Internal: questions about a book in lent bytes: whether it is one, the number of entries, one entry, a tally, a balance.
 #![tactic(auto)]
 
-ghost use Rattle.std.specs.Prelude.{◌≡◌, ◌≤◌, length};
-ghost use Rattle.rules.specs.Words.{book_words};
-ghost use Rattle.word_bytes.specs.Coding.{needed_for};
-ghost use Rattle.word_bytes.specs.Sizes.{wide_words};
-ghost use Rattle.byte_questions.specs.Questions.{no_reply, reply_in, reply_on};
+ghost use Rattle.std.specs.Prelude.{◌≡◌, false, pos};
+ghost use Rattle.rules.specs.Words.{is_book};
+ghost use Rattle.rules.specs.Refusals.{not_a_book};
+ghost use Rattle.rules.specs.Answers.{counted_of, entry_read_of, tally_answer_of, balance_answer_of};
+ghost use Rattle.rules.specs.Book.{count_answer, no_read, read_answer};
+ghost use Rattle.rules.specs.Balance.{tally_answer, balance_answer, day_ahead, delivery, no_tally};
+ghost use Rattle.word_bytes.specs.Bytes.{on_words};
 
-use rules::layout::BOOK_WORDS;
-use rules::{BalanceAnswer, Counted, EntryRead, TallyAnswer};
-use word_bytes::sizes::{MIDDLE_WORDS, SMALL_WORDS, WIDE_WORDS};
+use rules::{Entry, PartyDay, Refusal};
 
-// What is asked: a tally and a balance of a party and a day, the balance of the day-ahead or of delivery.
-#[derive(Clone, Copy)]
-pub enum Question {
-    Count,
-    Entry(u32),
-    Tally(u32, u32),
-    DayAhead(u32, u32),
-    Delivery(u32, u32),
-}
-
-// The answer to one question; those to the others are zero.
-#[derive(Clone, Copy)]
-pub struct Reply {
-    pub counted: Counted,
-    pub entry: EntryRead,
-    pub tallied: TallyAnswer,
-    pub balance: BalanceAnswer,
-}
-
-fn no_reply() -> Reply
-    ensures { result ≡ no_reply }
+pub fn is_book(book: &[u8]) -> bool
+    ensures { result ≡ on_words book.now is_book false }
 {
-    Reply {
-        counted: Counted {
-            answer: 0,
-            count: 0,
-        },
-        entry: book::no_read(0),
-        tallied: tally::no_tally(0),
-        balance: BalanceAnswer {
-            answer: 0,
-            balance: 0,
-        },
-    }
+    byte_calls::ask(book, |words| book::is_book(words))
 }
 
-fn with_count(book: &[u32]) -> Reply
-    ensures { result ≡ reply_in book.now Question.Count }
+pub fn count(book: &[u8]) -> Result<u32, Refusal>
+    ensures { counted_of result ≡ on_words book.now count_answer (record { answer = not_a_book; count = 0 }) }
 {
-    let mut r = no_reply();
-    let counted = book::count(book);
-    r.counted = counted;
-    r
+    byte_calls::ask(book, |words| book::count(words))
 }
 
-fn with_entry(book: &[u32], number: u32) -> Reply
-    ensures { result ≡ reply_in book.now (Question.Entry number) }
+pub fn entry(book: &[u8], number: u32) -> Result<Entry, Refusal>
+    ensures { entry_read_of result ≡ on_words book.now (λ ws. read_answer ws number) (no_read not_a_book) }
 {
-    let mut r = no_reply();
-    let entry = book::entry(book, number);
-    r.entry = entry;
-    r
+    byte_calls::ask(book, |words| book::entry(words, number))
 }
 
-fn with_tally(book: &[u32], party: u32, day: u32) -> Reply
-    ensures { result ≡ reply_in book.now (Question.Tally party day) }
+pub fn tally(book: &[u8], party: u32, day: u32) -> Result<PartyDay, Refusal>
+    ensures { tally_answer_of result ≡ on_words book.now (λ ws. tally_answer ws party day) (record { answer = not_a_book; tally = no_tally; bought = 0 }) }
 {
-    let mut r = no_reply();
-    let tallied = position::tally(book, party, day);
-    r.tallied = tallied;
-    r
+    byte_calls::ask(book, |words| position::tally(words, party, day))
 }
 
-fn with_day_ahead(book: &[u32], party: u32, day: u32) -> Reply
-    ensures { result ≡ reply_in book.now (Question.DayAhead party day) }
+pub fn day_ahead(book: &[u8], party: u32, day: u32) -> Result<i64, Refusal>
+    ensures { balance_answer_of result ≡ on_words book.now (λ ws. balance_answer day_ahead ws party day) (record { answer = not_a_book; balance = pos 0 }) }
 {
-    let mut r = no_reply();
-    let balance = position::day_ahead(book, party, day);
-    r.balance = balance;
-    r
+    byte_calls::ask(book, |words| position::day_ahead(words, party, day))
 }
 
-fn with_delivery(book: &[u32], party: u32, day: u32) -> Reply
-    ensures { result ≡ reply_in book.now (Question.Delivery party day) }
+pub fn delivery(book: &[u8], party: u32, day: u32) -> Result<i64, Refusal>
+    ensures { balance_answer_of result ≡ on_words book.now (λ ws. balance_answer delivery ws party day) (record { answer = not_a_book; balance = pos 0 }) }
 {
-    let mut r = no_reply();
-    let balance = position::delivery(book, party, day);
-    r.balance = balance;
-    r
-}
-
-// The answer on a book's words.
-fn answered(book: &[u32], question: Question) -> Reply
-    ensures { result ≡ reply_in book.now question }
-{
-    match question {
-        Question::Count => with_count(book),
-        Question::Entry(number) => with_entry(book, number),
-        Question::Tally(party, day) => with_tally(book, party, day),
-        Question::DayAhead(party, day) => with_day_ahead(book, party, day),
-        Question::Delivery(party, day) => with_delivery(book, party, day),
-    }
-}
-
-// The same in words that have place for those of the entries.
-fn ask_on(words: &mut [u32], book: &[u8], question: Question) -> Reply
-    requires { needed_for 0 book.now ≤ length words.old }
-    ensures { result ≡ reply_on book.now question }
-{
-    let n = word_bytes::decode(book, 0, words);
-    answered(&words[..n], question)
-}
-
-fn ask_wide(book: &[u8], question: Question) -> Reply
-    requires { needed_for 0 book.now ≤ wide_words }
-    ensures { result ≡ reply_on book.now question }
-{
-    let mut words = [0u32; WIDE_WORDS];
-    ask_on(&mut words, book, question)
-}
-
-fn ask_large(book: &[u8], question: Question) -> Reply
-    requires { needed_for 0 book.now ≤ book_words }
-    ensures { result ≡ reply_on book.now question }
-{
-    let mut words = [0u32; BOOK_WORDS];
-    ask_on(&mut words, book, question)
-}
-
-// In the words lent where they suffice, else in a larger array (see `word_bytes::sizes`).
-fn ask_in(words: &mut [u32], book: &[u8], question: Question) -> Reply
-    ensures { result ≡ reply_on book.now question }
-{
-    let n = word_bytes::needed(book, 0);
-    if n <= words.len() {
-        return ask_on(words, book, question);
-    }
-    if n <= MIDDLE_WORDS {
-        let mut more = [0u32; MIDDLE_WORDS];
-        return ask_in(&mut more, book, question);
-    }
-    if n <= WIDE_WORDS {
-        return ask_wide(book, question);
-    }
-    ask_large(book, question)
-}
-
-pub fn ask(book: &[u8], question: Question) -> Reply
-    ensures { result ≡ reply_on book.now question }
-{
-    let mut words = [0u32; SMALL_WORDS];
-    ask_in(&mut words, book, question)
+    byte_calls::ask(book, |words| position::delivery(words, party, day))
 }

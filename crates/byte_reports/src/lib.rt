@@ -1,5 +1,4 @@
-// Internal: collateral and the month report on a book in lent bytes, in an array that has the words of its entries. `host`
-// exports them.
+// Internal: collateral and the month report on a book in lent bytes. `host` exports them.
 #![tactic(auto)]
 
 pub mod collaterals;

@@ -8,8 +8,7 @@ ghost use Rattle.rules.specs.Calls.{cause_of, words_after, post_answer};
 ghost use Rattle.rules.specs.Calls as calls;
 ghost use Rattle.word_bytes.specs.Bytes.{on_words, with_words, yes_no};
 
-use byte_changes::Request;
-use byte_questions::Question;
+use rules::answers::answer_of;
 use rules::{Counted, EntryRead, Key, Posted};
 
 // 1 if the bytes are a book, else 0.
@@ -17,8 +16,7 @@ use rules::{Counted, EntryRead, Key, Posted};
 pub extern "C" fn fanzsoreb_is_book(book: &[u8]) -> u32
     ensures { result ≡ on_words book.now (λ ws. yes_no (is_book ws)) 0 }
 {
-    let reply = byte_questions::ask(book, Question::Count);
-    (reply.counted.answer == 0) as u32
+    byte_questions::is_book(book).into()
 }
 
 // Opens a book with coefficient R in hundredths and tolerance amount TM in kWh.
@@ -27,7 +25,7 @@ pub extern "C" fn fanzsoreb_open(book: &mut [u8], coefficient: u32, tolerance: u
     ensures answer { result ≡ on_words book.old (λ ws. open_cause (length ws) coefficient tolerance) not_a_book }
     ensures bytes { book.new ≡ with_words book.old (λ ws. open_words ws coefficient tolerance) }
 {
-    byte_openings::open(book, coefficient, tolerance)
+    answer_of(byte_openings::open(book, coefficient, tolerance))
 }
 
 // Opens a book with the figures of an opening that names none.
@@ -36,7 +34,7 @@ pub extern "C" fn fanzsoreb_open_default(book: &mut [u8]) -> u32
     ensures answer { result ≡ on_words book.old (λ ws. open_default_cause (length ws)) not_a_book }
     ensures bytes { book.new ≡ with_words book.old open_default_words }
 {
-    byte_openings::open_default(book)
+    answer_of(byte_openings::open_default(book))
 }
 
 // Appends one standing entry and answers its number, counted from 0.
@@ -58,11 +56,7 @@ pub extern "C" fn fanzsoreb_post(
         entry_type,
         counterparty,
     };
-    let done = byte_changes::change(book, Request::Post(key, amount));
-    Posted {
-        answer: done.answer,
-        number: done.number,
-    }
+    byte_changes::post(book, key, amount).into()
 }
 
 // Gives the entry of this number status 1.
@@ -71,8 +65,7 @@ pub extern "C" fn fanzsoreb_withdraw(book: &mut [u8], number: u32) -> u32
     ensures answer { result ≡ on_words book.old (λ ws. cause_of ws (calls.withdraw number)) not_a_book }
     ensures bytes { book.new ≡ with_words book.old (λ ws. words_after ws (calls.withdraw number)) }
 {
-    let done = byte_changes::change(book, Request::Withdraw(number));
-    done.answer
+    answer_of(byte_changes::withdraw(book, number))
 }
 
 // The number of entries, of every status.
@@ -80,8 +73,7 @@ pub extern "C" fn fanzsoreb_withdraw(book: &mut [u8], number: u32) -> u32
 pub extern "C" fn fanzsoreb_count(book: &[u8]) -> Counted
     ensures { result ≡ on_words book.now count_answer (record { answer = not_a_book; count = 0 }) }
 {
-    let reply = byte_questions::ask(book, Question::Count);
-    reply.counted
+    byte_questions::count(book).into()
 }
 
 // One entry by its number.
@@ -89,6 +81,5 @@ pub extern "C" fn fanzsoreb_count(book: &[u8]) -> Counted
 pub extern "C" fn fanzsoreb_entry(book: &[u8], number: u32) -> EntryRead
     ensures { result ≡ on_words book.now (λ ws. read_answer ws number) (no_read not_a_book) }
 {
-    let reply = byte_questions::ask(book, Question::Entry(number));
-    reply.entry
+    byte_questions::entry(book, number).into()
 }

@@ -57,5 +57,5 @@ pub extern "C" fn fanzsoreb_collateral(
         score,
         best,
     );
-    collaterals::secure(book, case)
+    collaterals::secure(book, case).into()
 }

@@ -5,7 +5,6 @@ ghost use Rattle.rules.specs.Calls.{words_after, control_answer, file_answer};
 ghost use Rattle.rules.specs.Calls as calls;
 ghost use Rattle.word_bytes.specs.Bytes.{on_words, with_words};
 
-use byte_changes::Request;
 use rules::{Controlled, FileRead};
 
 // Posts the lines of a file: all of them or none.
@@ -14,7 +13,7 @@ pub extern "C" fn fanzsoreb_read_file(book: &mut [u8], file: &[u8]) -> FileRead
     ensures answer { result ≡ on_words book.old (λ ws. file_answer ws file.now) (record { answer = not_a_book; posted = 0 }) }
     ensures bytes { book.new ≡ with_words book.old (λ ws. words_after ws (calls.file file.now)) }
 {
-    byte_files::read(book, file)
+    byte_files::read(book, file).into()
 }
 
 // Cancels the bilateral sales of detected parties and closes the day.
@@ -23,11 +22,5 @@ pub extern "C" fn fanzsoreb_control(book: &mut [u8], day: u32) -> Controlled
     ensures answer { result ≡ on_words book.old (λ ws. control_answer ws day) (record { answer = not_a_book; first = 0; second = 0; cancelled = 0 }) }
     ensures bytes { book.new ≡ with_words book.old (λ ws. words_after ws (calls.control day)) }
 {
-    let done = byte_changes::change(book, Request::Control(day));
-    Controlled {
-        answer: done.answer,
-        first: done.first,
-        second: done.second,
-        cancelled: done.cancelled,
-    }
+    byte_changes::control(book, day).into()
 }

@@ -26,7 +26,7 @@ pub extern "C" fn fanzsoreb_ceiling(
 ) -> CeilingAnswer
     ensures { result ≡ ceiling_answer offer bilateral futures capacity }
 {
-    ceiling::ceiling(offer, bilateral, futures, capacity)
+    ceiling::ceiling(offer, bilateral, futures, capacity).into()
 }
 
 // 12, or the first day of a month of the years 2000 to 2399 (02, T-08).
@@ -34,5 +34,5 @@ pub extern "C" fn fanzsoreb_ceiling(
 pub extern "C" fn fanzsoreb_first_day(month: u32) -> FirstDayAnswer
     ensures { result ≡ first_day_answer month }
 {
-    first_day::first_day(month)
+    first_day::first_day(month).into()
 }

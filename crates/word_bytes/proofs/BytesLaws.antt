@@ -1,12 +1,13 @@
 -- Laws of words and their bytes. Assumes nothing.
 use mathlib.Core.Path.{◌≡◌, refl, sym, ◌∙◌, ap, ap₂}
 use mathlib.Core.List.{List, [], ◌∷◌, ◌++◌, append_assoc, append-nil}
-use Prim.Native.Nat.{ℕ, zero, suc, ◌+◌, ◌*◌, ◌/◌, ◌%◌, ◌≤◌, ◌<◌}
+use Prim.Native.Nat.{ℕ, zero, suc, ◌+◌, ◌-◌, ◌*◌, ◌/◌, ◌%◌, ◌≤◌, ◌<◌}
 use native.Mathlib.Nat.{div-add-mod', div-div-eq-div-mul}
 use native.Mathlib.Numerals.{add-one}
 use native.Mathlib.Omega.{arith}
 use lib.ListN.{length, get_or, take, drop, set, take-append-drop}
 use lib.Seq.{take_all, take-length, drop-length, drop_at, take-suc, take-suc-set, length-take-le, drop-append-add, drop-drop, take_at}
+use Rattle.std.specs.Int.{w32, to_le_bytes}
 use Rattle.rules.specs.DayFile.{words_of}
 use Rattle.word_bytes.specs.Bytes.{bytes_of}
 use Rattle.word_bytes.specs.Coding.{word_at}
@@ -37,6 +38,17 @@ word-of-bytes w =
     let s : w / 256 / 256 ≡ w / 65536 = div-div-eq-div-mul w 256 256 in
     let t : w / 65536 / 256 ≡ w / 16777216 = div-div-eq-div-mul w 65536 256 in
     omega arith
+
+-- the library's bytes of a word of 32 bits
+pub le-bytes : (w : ℕ) → w < 4294967296 → to_le_bytes w32 w ≡ bytes_of (w ∷ [])
+unfolding bytes_of
+le-bytes w h = let t : w / 16777216 % 256 ≡ w / 16777216 = omega arith in rw t
+
+-- a part of bytes replaced by a word's
+pub put-part : (at : ℕ) (bs ws : List ℕ) {cs : List ℕ} → cs ≡ ws → take at bs ++ (cs ++ drop (at + 4 - at) (drop at bs)) ≡ take at bs ++ ws ++ drop (at + 4) bs
+put-part at bs ws e =
+    let n : at + 4 - at ≡ 4 = omega arith in
+    rw (n, drop-drop 4 at bs, e) (sym (append_assoc (take at bs) ws (drop (at + 4) bs)))
 
 -- lengths
 pub length-words : (bs : List ℕ) → length (words_of bs) ≡ length bs / 4

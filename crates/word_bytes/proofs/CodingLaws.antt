@@ -16,7 +16,7 @@ use Rattle.numbers.specs.Causes.{if_done}
 use Rattle.numbers.proofs.TestLaws.{bool_cases}
 use Rattle.rules.specs.DayFile.{words_of}
 use Rattle.word_bytes.specs.Bytes.{bytes_of, is_whole, on_words, with_words, yes_no}
-use Rattle.word_bytes.specs.Coding.{over_bytes, words_in, count_in, needed_for, Decoded}
+use Rattle.word_bytes.specs.Coding.{over_bytes, words_in, count_in, needed_for}
 use Rattle.word_bytes.proofs.BytesLaws.{Bytes, length-words, bytes_back, bytes-append, bytes_past}
 
 -- how many words are read
@@ -91,10 +91,9 @@ unfolding words_in
 words-none m bs w = rw w
 
 -- on them a call answers as on the bytes: no words are no book
-pub on-words : {A : Type 0} {m : ℕ} {bs ws : List ℕ} {n : ℕ} → Decoded m bs ws n → (f : List ℕ → A) (refused : A) → f [] ≡ refused → f (take m (words_of bs)) ≡ f (words_of bs) → f (take n ws) ≡ on_words bs f refused
+pub on-words : {A : Type 0} (m : ℕ) (bs : List ℕ) (f : List ℕ → A) (refused : A) → f [] ≡ refused → f (take m (words_of bs)) ≡ f (words_of bs) → f (words_in m bs) ≡ on_words bs f refused
 unfolding on_words words_in
-on-words {bs = bs} r f refused e c =
-    ap f r.read ∙ elim (bool_cases (is_whole bs)) [ inl w ↦ rw w c | inr w ↦ rw w e ]
+on-words m bs f refused e c = elim (bool_cases (is_whole bs)) [ inl w ↦ rw w c | inr w ↦ rw w e ]
 
 -- a figure of such an answer
 pub on-figure : {A B : Type 0} (bs : List ℕ) (g : A → B) (f : List ℕ → A) (refused : A) → g (on_words bs f refused) ≡ on_words bs (λ ws. g (f ws)) (g refused)
@@ -145,14 +144,12 @@ pub over-empty : (ws bs : List ℕ) → length ws ≡ 0 → over_bytes ws bs ≡
 over-empty [] bs z = over_none bs
 over-empty (w ∷ ws) bs z = absurd (omega arith)
 
--- n words read, of which the call leaves vs, written back where the answer is 0
-pub written-bytes : {m : ℕ} {bs ws vs : List ℕ} {n answer : ℕ} (f : Call m bs) → Bytes bs → Decoded m bs ws n → length vs ≡ length (take n ws) → vs ≡ f.leaves (take n ws) → answer ≡ f.cause (take n ws) → if_done answer (over_bytes (take n (vs ++ drop n ws)) bs) bs ≡ with_words bs f.leaves
-written-bytes {m} {bs} {ws} {vs} {n} {answer} f bytes d kept left answered =
-    let read = d.read in
-    let a : answer ≡ f.cause (words_in m bs) = answered ∙ ap f.cause read in
-    let v : take n (vs ++ drop n ws) ≡ f.leaves (words_in m bs) = take_at vs (drop n ws) n (kept ∙ sym (taken n ws d.inside)) ∙ left ∙ ap f.leaves read in
-    rw (a, v) (written (f.cause (words_in m bs)) (words_in m bs) (f.leaves (words_in m bs)) bs (same_bytes m bs bytes) (f.refused (words_in m bs)))
-    ∙ with-words m bs f bytes (ap length (sym (left ∙ ap f.leaves read)) ∙ kept ∙ ap length read)
+-- the words read, of which the call leaves vs, written back where the answer is 0
+pub written-bytes : {m : ℕ} {bs vs : List ℕ} {answer : ℕ} (f : Call m bs) → Bytes bs → length vs ≡ length (words_in m bs) → vs ≡ f.leaves (words_in m bs) → answer ≡ f.cause (words_in m bs) → if_done answer (over_bytes vs bs) bs ≡ with_words bs f.leaves
+written-bytes {m} {bs} f bytes kept left answered =
+    let ws = words_in m bs in
+    rw (answered, left) (written (f.cause ws) ws (f.leaves ws) bs (same_bytes m bs bytes) (f.refused ws))
+    ∙ with-words m bs f bytes (ap length (sym left) ∙ kept)
 
 -- words stored in three parts, from the last to the first, are stored whole
 stored-whole : (ws bs cs ds es : List ℕ) (end : ℕ) → 1 ≤ end → end ≤ length ws → 4 * length ws ≤ length bs →

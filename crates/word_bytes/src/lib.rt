@@ -4,27 +4,21 @@
 ghost use Rattle.std.specs.Prelude.{◌≡◌, ◌+◌, ◌*◌, ◌<◌, ◌≤◌, min, [], ◌∷◌, ◌++◌, length, take, drop};
 ghost use Rattle.rules.specs.Words.{values, count_of, book_words, used_with};
 ghost use Rattle.numbers.specs.Causes.{if_done};
+ghost use Rattle.rules.specs.Refusals.{answer_of};
 ghost use Rattle.rules.specs.DayFile.{words_of};
 ghost use Rattle.word_bytes.specs.Bytes.{bytes_of, is_whole};
 ghost use Rattle.word_bytes.specs.Coding.{word_at, over_bytes, count_in, needed_for, Decoded};
 
+use rules::Refusal;
 use rules::bounds::MOST_ENTRIES;
 use rules::layout::{BOOK_WORDS, ENTRY_WORDS, HEAD_WORDS, KIND};
-
-pub mod sizes;
-
-fn word_of(a: u8, b: u8, c: u8, d: u8) -> u32
-    ensures { result ≡ a + b * 256 + c * 65536 + d * 16777216 }
-{
-    a as u32 + b as u32 * 256 + c as u32 * 65536 + d as u32 * 16777216
-}
 
 // The word at a byte.
 pub fn word_at(bytes: &[u8], at: usize) -> u32
     requires { at + 4 ≤ length bytes.now }
     ensures { result ≡ word_at bytes.now at }
 {
-    word_of(bytes[at], bytes[at + 1], bytes[at + 2], bytes[at + 3])
+    u32::from_le_bytes([bytes[at], bytes[at + 1], bytes[at + 2], bytes[at + 3]])
 }
 
 // As many words as there is place for, which the bytes have.
@@ -32,10 +26,8 @@ pub fn read_words(bytes: &[u8], words: &mut [u32])
     requires { 4 * length words.old ≤ length bytes.now }
     ensures { words.new ≡ take (length words.old) (words_of bytes.now) }
 {
-    let mut i = 0;
-    while i < words.len() {
+    for i in 0..words.len() {
         words[i] = word_at(bytes, 4 * i);
-        i += 1;
     }
 }
 
@@ -44,10 +36,7 @@ pub fn put_word(bytes: &mut [u8], at: usize, word: u32)
     requires { at + 4 ≤ length bytes.old }
     ensures { bytes.new ≡ take at bytes.old ++ bytes_of (word ∷ []) ++ drop (at + 4) bytes.old }
 {
-    bytes[at] = (word % 256) as u8;
-    bytes[at + 1] = (word / 256 % 256) as u8;
-    bytes[at + 2] = (word / 65536 % 256) as u8;
-    bytes[at + 3] = (word / 16777216) as u8;
+    bytes[at..at + 4].copy_from_slice(&word.to_le_bytes());
 }
 
 // The bytes of words over the first bytes, which are as many or more.
@@ -55,10 +44,8 @@ fn encode(words: &[u32], bytes: &mut [u8])
     requires { 4 * length words.now ≤ length bytes.old }
     ensures { bytes.new ≡ over_bytes words.now bytes.old }
 {
-    let mut k = 0;
-    while k < words.len() {
-        put_word(bytes, 4 * k, words[k]);
-        k += 1;
+    for (k, word) in words.iter().enumerate() {
+        put_word(bytes, 4 * k, *word);
     }
 }
 
@@ -67,12 +54,6 @@ pub fn is_whole(bytes: &[u8]) -> bool
     ensures { result ≡ is_whole bytes.now }
 {
     bytes.len() % 4 == 0
-}
-
-fn lesser(a: usize, b: usize) -> usize
-    ensures { result ≡ min a b }
-{
-    if a < b { a } else { b }
 }
 
 // The number of entries that a book's first word gives.
@@ -91,7 +72,7 @@ fn used_with(count: usize, added: usize) -> usize
     if MOST_ENTRIES < added {
         return BOOK_WORDS;
     }
-    lesser(BOOK_WORDS, HEAD_WORDS + ENTRY_WORDS * (count + added))
+    BOOK_WORDS.min(HEAD_WORDS + ENTRY_WORDS * (count + added))
 }
 
 // The same by a book's bytes; those of less than a word have no entries.
@@ -111,7 +92,7 @@ fn count_in(bytes: &[u8], most: usize) -> usize
     if !is_whole(bytes) {
         return 0;
     }
-    lesser(most, bytes.len() / 4)
+    most.min(bytes.len() / 4)
 }
 
 // How many words of a book's bytes a call needs that adds some entries at most.
@@ -144,7 +125,7 @@ fn end_of(words: usize, bytes: &[u8]) -> usize
     requires { (1 ≤ words) × (4 ≤ length bytes.now) }
     ensures { (1 ≤ result) × (result ≤ words) }
 {
-    lesser(used_with(count_at(bytes), 0), words)
+    used_with(count_at(bytes), 0).min(words)
 }
 
 // Words over the first bytes: those beyond the book's entries first, then those before, last and by itself the word with
@@ -162,14 +143,14 @@ fn store(words: &[u32], bytes: &mut [u8])
 }
 
 // The words that a done call left go back to the book's bytes; a refused one writes nothing.
-pub fn write_back(answer: u32, words: &[u32], bytes: &mut [u8])
+pub fn write_back<T>(answer: &Result<T, Refusal>, words: &[u32], bytes: &mut [u8])
     requires { 4 * length words.now ≤ length bytes.old }
-    ensures { bytes.new ≡ if_done answer (over_bytes words.now bytes.old) bytes.old }
+    ensures { bytes.new ≡ if_done (answer_of answer.now) (over_bytes words.now bytes.old) bytes.old }
 {
-    if answer != 0 {
+    if answer.is_err() {
         return;
     }
-    if words.len() != 0 {
+    if !words.is_empty() {
         store(words, bytes);
     }
 }

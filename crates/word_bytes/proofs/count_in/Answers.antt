@@ -7,4 +7,4 @@ pub returns-then-not-is_whole : goal.returns-then-not-is_whole
 returns-then-not-is_whole c = count-odd _ _ (sym c.is_whole.ensures ∙ c.if-not-is_whole.true)
 
 pub returns : goal.returns
-returns c = count-whole _ _ (sym c.is_whole.ensures ∙ c.if-not-is_whole.false) c.lesser.ensures
+returns c = count-whole _ _ (sym c.is_whole.ensures ∙ c.if-not-is_whole.false) c.min.ensures

@@ -15,7 +15,7 @@ loop-k-init c = search rules
 pub loop-k-preserved : goal.loop-k-preserved
 loop-k-preserved c =
     let l = c.loop-k in
-    (search rules, omega arith, c.put_word.ensures ∙ write_step _ _ l.k (omega arith) _ l.invariant.2)
+    (omega arith, c.put_word.ensures ∙ write_step _ _ l.k (omega arith) _ l.invariant.1)
 
 pub returns : goal.returns
 unfolding over_bytes
@@ -23,4 +23,4 @@ returns c =
     let l = c.loop-k in
     let ws = c.args.words.now in
     let e : l.k ≡ length ws = omega arith in
-    l.invariant.2 ∙ rw (e, take-length ws)
+    l.invariant.1 ∙ rw (e, take-length ws)

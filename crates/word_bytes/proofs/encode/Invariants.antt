@@ -1,13 +1,10 @@
--- `word_bytes::encode` meets its contract. The loop's invariant: the bytes of the first k words stand over the first bytes. Assumes nothing.
+-- The loop's invariant: the bytes of the first k words stand over the first bytes.
 use mathlib.Core.Path.{◌≡◌}
-use Prim.Native.Nat.{◌*◌, ◌≤◌, ◌-◌}
+use Prim.Native.Nat.{◌*◌}
 use mathlib.Core.List.{◌++◌}
 use lib.ListN.{length, take, drop}
 use Rattle.word_bytes.specs.Bytes.{bytes_of}
 use Rattle.word_bytes.proofs.encode.Given as goal
 
 abbrev pub invariant-loop-k : goal.invariant-loop-k
-invariant-loop-k l = (l.k ≤ length l.words) × (length l.bytes ≡ length l.initial.bytes) × (l.bytes ≡ bytes_of (take l.k l.words) ++ drop (4 * l.k) l.initial.bytes)
-
-abbrev pub decreases-loop-k : goal.decreases-loop-k
-decreases-loop-k l = length l.words - l.k
+invariant-loop-k l = (length l.bytes ≡ length l.initial.bytes) × (l.bytes ≡ bytes_of (take l.k l.words) ++ drop (4 * l.k) l.initial.bytes)

@@ -1,13 +1,9 @@
 -- `word_bytes::put_word` meets its contract. Assumes nothing.
-use mathlib.Core.List.{[], ◌∷◌}
-use native.Mathlib.Numerals.{add-one, add-two, add-three}
-use lib.Seq.{sets-eq}
-use Rattle.word_bytes.specs.Bytes.{bytes_of}
+use mathlib.Core.Path.{◌∙◌}
+use Rattle.word_bytes.proofs.BytesLaws.{le-bytes, put-part}
 use Rattle.word_bytes.proofs.put_word.Goals as goal
 
 pub returns : goal.returns
-unfolding bytes_of
 returns c =
-    let a = c.args in
-    rw (add-one a.at, add-two a.at, add-three a.at)
-    (sets-eq (bytes_of (a.word ∷ [])) a.bytes.now a.at c.requires)
+    put-part c.args.at c.args.bytes.now _
+    (c.copy_from_slice.ensures.after ∙ c.to_le_bytes.ensures ∙ le-bytes c.args.word c.ranges.word.fits)

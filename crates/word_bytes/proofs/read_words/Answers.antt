@@ -9,4 +9,4 @@ pub loop-i-preserved : goal.loop-i-preserved
 loop-i-preserved c =
     let l = c.loop-i in
     let bs = c.args.bytes.now in
-    (search rules, simp length-set (search rules), fill_step 0 _ _ l.i _ (omega arith) (omega (arith, length-words bs)) (c.word_at.ensures ∙ sym (word-at bs l.i (omega arith))) l.invariant.2)
+    (simp length-set (search rules), fill_step 0 _ _ l.i _ (omega arith) (omega (arith, length-words bs)) (c.word_at.ensures ∙ sym (word-at bs l.i (omega arith))) l.invariant.1)

@@ -1,0 +1,2 @@
+-- Any call on a book in lent bytes.
+pub mod Calls

@@ -1,2 +1,0 @@
--- Requests of a book in lent bytes.
-pub mod Requests

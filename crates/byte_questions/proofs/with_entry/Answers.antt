@@ -1,7 +1,0 @@
--- `byte_questions::with_entry` meets its contract. Assumes nothing.
-use Rattle.byte_questions.specs.Questions.{reply_in}
-use Rattle.byte_questions.proofs.with_entry.Goals as goal
-
-pub returns : goal.returns
-unfolding reply_in
-returns c = rw (c.no_reply-r.ensures, c.entry-entry.ensures)

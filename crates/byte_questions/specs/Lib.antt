@@ -1,2 +1,0 @@
--- Questions about a book in lent bytes.
-pub mod Questions

@@ -1,2 +1,0 @@
--- The month report on a book in lent bytes.
-pub mod Reports
