@@ -1,18 +1,18 @@
-// Internal: the closed days of a book in a table, for files of many lines.
+// Internal: the closed days of a book in a table, for files of many lines. A caller meets each `requires`.
 #![tactic(auto)]
 
-ghost use Rattle.std.specs.Prelude.{◌≡◌, false, ◌||◌, ℕ, ◌<◌, get_or};
+ghost use Rattle.std.specs.Prelude.{◌≡◌, false, ◌||◌, ℕ, ◌<◌, length, get_or};
 ghost use Rattle.numbers.specs.Tests.{any};
 ghost use Rattle.rules.specs.Entry.{is_mark, day_places};
 ghost use Rattle.rules.specs.Words.{entries};
 ghost use Rattle.rules.specs.Book.{is_closed};
 
-use rules::bounds::DAYS;
 use rules::layout::MARK;
 use words::Book;
 
 // The closed days of a book, once, so that no line searches for them again.
-pub fn close_days(book: &Book, closed: &mut [bool; DAYS])
+pub fn close_days(book: &Book, closed: &mut [bool])
+    requires { length closed.old ≡ day_places }
     ensures { (d : ℕ) → d < day_places → get_or closed.new d false ≡ get_or closed.old d false || is_closed d (entries book.now) }
 {
     for i in 0..book.count() {

@@ -19,7 +19,7 @@ loop-i-init c = λ d _. rw (sub-zero (count_of c.args.book.now))
 
 -- the day of a mark has a place in the table
 pub bounds-closed-day : goal.bounds-closed-day
-bounds-closed-day c = rw c.day.ensures (omega (arith, (legal-bounds _ c.entry_words-entry.ensures.legal).day))
+bounds-closed-day c = rw (c.day.ensures, c.loop-i.auto.closed, c.requires) (omega (arith, (legal-bounds _ c.entry_words-entry.ensures.legal).day))
 
 pub loop-i-preserved : goal.loop-i-preserved
 loop-i-preserved c =
