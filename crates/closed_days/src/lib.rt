@@ -1,10 +1,10 @@
 // Internal: the closed days of a book in a table, for files of many lines. A caller meets each `requires`.
 #![tactic(auto)]
 
-ghost use Rattle.std.specs.Prelude.{◌≡◌, false, ◌||◌, ℕ, ◌<◌, length, get_or};
+ghost use Rattle.std.specs.Prelude.{◌≡◌, true, false, ◌||◌, ℕ, ◌<◌, length, get_or};
 ghost use Rattle.numbers.specs.Tests.{any};
 ghost use Rattle.rules.specs.Entry.{is_mark, day_places};
-ghost use Rattle.rules.specs.Words.{entries};
+ghost use Rattle.rules.specs.Words.{is_book, entries};
 ghost use Rattle.rules.specs.Book.{is_closed};
 
 use rules::layout::MARK;
@@ -23,9 +23,10 @@ pub fn close_days(book: &Book, closed: &mut [bool])
     }
 }
 
-// Whether an entry is a mark: without one no day is closed.
+// Whether an entry is a mark: without one no day is closed. A caller learns here that the words are a book.
 pub fn has_mark(book: &Book) -> bool
-    ensures { result ≡ any is_mark (entries book.now) }
+    ensures mark { result ≡ any is_mark (entries book.now) }
+    ensures book { is_book book.now ≡ true }
 {
     for n in 0..book.count() {
         if book.entry_words(n).entry_type() == MARK {

@@ -23,17 +23,17 @@ pub loop-n-init : goal.loop-n-init
 unfolding entries
 loop-n-init c = rw (sub-zero (count_of c.args.book.now))
 
-pub returns-then-entry_type-eq-MARK : goal.returns-then-entry_type-eq-MARK
-returns-then-entry_type-eq-MARK c =
+pub returns-then-entry_type-eq-MARK-clause-mark : goal.returns-then-entry_type-eq-MARK-clause-mark
+returns-then-entry_type-eq-MARK-clause-mark c =
     sym (by-entry _ _ c.loop-n.invariant c.loop-n-test.true c.count-n-end.ensures.count c.entry_type.ensures c.entry_words.ensures.entry ∙ rw (eq-eqb _ _ c.if-entry_type-eq-MARK.true))
 
 pub loop-n-preserved : goal.loop-n-preserved
 loop-n-preserved c =
     by-entry _ _ c.loop-n.invariant c.loop-n-test.true c.count-n-end.ensures.count c.entry_type.ensures c.entry_words.ensures.entry ∙ rw (ne_eqb _ _ c.if-entry_type-eq-MARK.false)
 
-pub returns : goal.returns
+pub returns-clause-mark : goal.returns-clause-mark
 unfolding any read_entries
-returns c =
+returns-clause-mark c =
     let ws = c.args.book.now in
     let z : count_of ws - c.loop-n.n ≡ 0 = omega arith in
     sym (c.loop-n.invariant ∙ rw z)

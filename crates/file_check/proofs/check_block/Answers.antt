@@ -1,7 +1,7 @@
--- `file_check::block_cause` meets its contract. Assumes nothing.
+-- `file_check::check_block` meets its contract. Assumes nothing.
 use Rattle.rules.specs.DayFile.{item_cause}
 use Rattle.entry_checks.proofs.Ladder.{passed, failed}
-use Rattle.file_check.proofs.block_cause.Goals as goal
+use Rattle.file_check.proofs.check_block.Goals as goal
 
 pub returns-then-not-party_ok : goal.returns-then-not-party_ok
 unfolding item_cause
