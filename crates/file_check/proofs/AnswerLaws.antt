@@ -1,13 +1,13 @@
 -- The answer to a file, from the closed days in a table and a scan of its items. Assumes nothing.
 use mathlib.Core.Path.{◌≡◌, refl, sym, ◌∙◌, ap, ap₂}
-use mathlib.Core.Bool.{Bool, true}
+use mathlib.Core.Bool.{Bool, true, false}
 use mathlib.Core.List.{List, [], ◌∷◌, map}
-use Prim.Native.Nat.{ℕ, zero, suc, ◌+◌, ◌%◌, ◌≤◌, ◌<◌}
+use Prim.Native.Nat.{ℕ, zero, suc, ◌+◌, ◌%◌, ◌≤◌}
 use native.Mathlib.Nat.{suc-ne-zero}
 use native.Mathlib.Omega.{arith}
 use lib.Dec.{eqb, leb}
 use lib.ListN.{length}
-use borrow.Author.Tests.{leb-true, le-leb, lt-leb}
+use borrow.Author.Tests.{leb-true}
 use Rattle.numbers.specs.Causes.{unless, or_else, first_of, if_done}
 use Rattle.numbers.proofs.TestLaws.{every_holds}
 use Rattle.numbers.proofs.CauseLaws.{else-stop, else-none, done-else}
@@ -19,7 +19,7 @@ use Rattle.rules.specs.Calls.{file, figures_on, cause_of, file_answer}
 use Rattle.rules.specs.declared.FileRead.{FileRead}
 use Rattle.rules.proofs.WordLaws.{no-fault}
 use Rattle.rules.proofs.CallLaws.{file-cause, refused-figures, done-figures}
-use Rattle.file_check.specs.Check.{TableOf, none_posted, cause_by, first_cause, scanned}
+use Rattle.file_check.specs.Check.{TableOf, cause_by, first_cause, scanned}
 
 -- a file is no longer than a file may be
 pub file-bytes : (bs : List ℕ) → is_file bs ≡ true → length bs ≤ 65536
@@ -40,12 +40,28 @@ causes-by-table : (cs : List Bool) (rs : List Record) → TableOf cs rs → (is 
 causes-by-table cs rs t [] = refl
 causes-by-table cs rs t (i ∷ is) = ap₂ or_else (cause_by-table cs rs t i) (causes-by-table cs rs t is)
 
-module _ (ws bs : List ℕ) (cs : List Bool) (book : is_book ws ≡ true) (shaped : is_file bs ≡ true) (table : TableOf cs (entries ws)) where
-  cause_of-file : cause_of ws (file bs) ≡ or_else (first_cause cs (items bs)) (unless (leb (count_of ws + length (lines_of (items bs))) (room_in (length ws))) 9)
-  cause_of-file = rw (file-cause, book, shaped, causes-by-table cs (entries ws) table (items bs), else-none (unless (leb (count_of ws + length (lines_of (items bs))) (room_in (length ws))) 9))
+-- what is told of all items by a table is told by the entries
+pub scan-refused : (rs : List Record) (is : List Item) (cs : List Bool) {k : ℕ} → TableOf cs rs → first_cause cs is ≡ k → (k ≡ 0 → ⊥) → ◌≡◌ {A = FileRead} (record { answer = k; posted = 0 }) (scanned rs is)
+unfolding scanned
+scan-refused rs is cs {k} t e n = go k (sym (causes-by-table cs rs t is) ∙ e) n
+  where
+    go : (k : ℕ) → first_of (map (item_cause rs) is) ≡ k → (k ≡ 0 → ⊥) → ◌≡◌ {A = FileRead} (record { answer = k; posted = 0 }) (record { answer = first_of (map (item_cause rs) is); posted = if_done (first_of (map (item_cause rs) is)) (length (lines_of is)) 0 })
+    go zero e n = absurd (n refl)
+    go (suc k) e n = rw e
+
+pub scan-done : (rs : List Record) (is : List Item) (cs : List Bool) {n : ℕ} → TableOf cs rs → first_cause cs is ≡ 0 → length (lines_of is) ≡ n → ◌≡◌ {A = FileRead} (record { answer = 0; posted = n }) (scanned rs is)
+unfolding scanned
+scan-done rs is cs t e q = rw (sym (causes-by-table cs rs t is) ∙ e, q)
+
+module _ (ws bs : List ℕ) (book : is_book ws ≡ true) (shaped : is_file bs ≡ true) where
+  abbrev causes : ℕ
+  causes = first_of (map (item_cause (entries ws)) (items bs))
 
   abbrev lines_in : ℕ
   lines_in = length (lines_of (items bs))
+
+  cause_of-file : cause_of ws (file bs) ≡ or_else causes (unless (leb (count_of ws + lines_in) (room_in (length ws))) 9)
+  cause_of-file = rw (file-cause, book, shaped, else-none (unless (leb (count_of ws + lines_in) (room_in (length ws))) 9))
 
   -- the answer by its cause
   answer-by : {k n : ℕ} → cause_of ws (file bs) ≡ k → if_done k lines_in 0 ≡ n → ◌≡◌ {A = FileRead} (record { answer = k; posted = n }) (file_answer ws bs)
@@ -56,8 +72,8 @@ module _ (ws bs : List ℕ) (cs : List Bool) (book : is_book ws ≡ true) (shape
       go zero z h = rw (z, done-figures ws (file bs) z, ← h)
       go (suc j) z h = rw (refused-figures ws (file bs) (λ y. suc-ne-zero j (sym z ∙ y)), z, ← h)
 
-  module _ {r : FileRead} (scan : r ≡ scanned cs (items bs)) where
-    first : r.answer ≡ first_cause cs (items bs)
+  module _ {r : FileRead} (scan : r ≡ scanned (entries ws) (items bs)) where
+    first : r.answer ≡ causes
     unfolding scanned
     first = ap (λ x. x.answer) scan
 
@@ -67,18 +83,14 @@ module _ (ws bs : List ℕ) (cs : List Bool) (book : is_book ws ≡ true) (shape
 
     pub answer-refused : (r.answer ≡ 0 → ⊥) → r ≡ file_answer ws bs
     unfolding scanned
-    answer-refused n =
-        scan ∙ answer-by (cause_of-file ∙ else-stop (first_cause cs (items bs)) _ (λ z. n (first ∙ z))) refl
+    answer-refused n = scan ∙ answer-by (cause_of-file ∙ else-stop causes _ (λ z. n (first ∙ z))) refl
 
-    pub answer-full : r.answer ≡ 0 → room_in (length ws) < count_of ws + r.posted → none_posted 9 ≡ file_answer ws bs
-    answer-full z h =
-        answer-by (cause_of-file ∙ rw (← first, z, lt-leb (count_of ws + lines_in) (room_in (length ws)) (rw (← lines z) h))) refl
+    pub answer-full : r.answer ≡ 0 → leb (count_of ws + r.posted) (room_in (length ws)) ≡ false → ◌≡◌ {A = FileRead} (record { answer = 9; posted = 0 }) (file_answer ws bs)
+    answer-full z h = answer-by (cause_of-file ∙ rw (← first, z, ← lines z, h)) refl
 
-    pub answer-done : r.answer ≡ 0 → count_of ws + r.posted ≤ room_in (length ws) → r ≡ file_answer ws bs
+    pub answer-done : r.answer ≡ 0 → leb (count_of ws + r.posted) (room_in (length ws)) ≡ true → r ≡ file_answer ws bs
     unfolding scanned
-    answer-done z h =
-        scan
-        ∙ answer-by (cause_of-file ∙ rw (← first, z, le-leb (count_of ws + lines_in) (room_in (length ws)) (rw (← lines z) h))) (rw (← first, z))
+    answer-done z h = scan ∙ answer-by (cause_of-file ∙ rw (← first, z, ← lines z, h)) (rw (← first, z))
 
 -- what is told of a file by the answer to it: something where it is posted, else of its cause
 module _ (ws bs : List ℕ) {r : FileRead} (e : r ≡ file_answer ws bs) where

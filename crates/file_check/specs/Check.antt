@@ -1,12 +1,11 @@
 -- The checks of a file's items with the closed days in a table (01, 'Day file').
-use Rattle.std.specs.Prelude.{◌≡◌, Bool, false, not, cond, ◌&&◌, List, [], ◌∷◌, map, ℕ, ◌<◌, eqb, length, get_or}
+use Rattle.std.specs.Prelude.{◌≡◌, Bool, false, not, ◌&&◌, List, [], ◌∷◌, map, ℕ, ◌<◌, length, get_or}
 use Rattle.numbers.specs.Causes.{unless, first_of, if_done}
 use Rattle.rules.specs.Refusals.{day_closed}
 use Rattle.rules.specs.Entry.{Record, day_places, fault, is_bilateral}
 use Rattle.rules.specs.Book.{is_closed}
 use Rattle.rules.specs.DayFile.{Item, line, empty_block, item_cause, lines_of}
 use Rattle.rules.specs.declared.FileRead.{FileRead}
-use Rattle.file_walk.specs.declared.Cursor.{Cursor}
 
 -- the table says of each day what the book says; a day past its end is not closed
 abbrev pub TableOf : List Bool → List Record → Type 0
@@ -21,15 +20,8 @@ cause_by closed (empty_block p d) = item_cause [] (empty_block p d)
 abbrev pub first_cause : List Bool → List Item → ℕ
 first_cause closed is = first_of (map (cause_by closed) is)
 
--- a head or line holds one line or none
-abbrev pub lines_at : Cursor → ℕ
-lines_at c = cond (eqb c.left 0) 0 1
-
--- a file that is refused posts no line
-abbrev pub none_posted : ℕ → FileRead
-none_posted cause = record { answer = cause; posted = 0 }
-
 -- the first cause of the items, and how many lines they have
-unfoldable pub scanned : List Bool → List Item → FileRead
-scanned closed is =
-    record { answer = first_cause closed is; posted = if_done (first_cause closed is) (length (lines_of is)) 0 }
+unfoldable pub scanned : List Record → List Item → FileRead
+scanned rs is =
+    let k = first_of (map (item_cause rs) is) in
+    record { answer = k; posted = if_done k (length (lines_of is)) 0 }

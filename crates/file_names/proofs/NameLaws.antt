@@ -3,19 +3,16 @@ use mathlib.Core.Path.{◌≡◌, refl, sym, ◌∙◌}
 use mathlib.Core.Logic.{inl, inr}
 use mathlib.Core.Bool.{Bool, true, false, ◌||◌, or-false, or-true, or_assoc, and-false}
 use mathlib.Core.List.{List, [], ◌∷◌}
-use Prim.Native.Nat.{ℕ, ◌≤◌, ◌<◌}
+use Prim.Native.Nat.{ℕ, ◌<◌}
 use native.Mathlib.Nat.{pos_of_ne-zero}
 use lib.Dec.{eqb}
 use lib.ListN.{length, get_or, set, length-set}
 use lib.Seq.{get_or-set_same, get_or-set_other}
 use borrow.Author.Tests.{eqb-true, eqb-false, lt-ltb}
 use Rattle.numbers.specs.Tests.{any}
-use Rattle.numbers.proofs.TestLaws.{bool_cases, any_append, or-false-split}
+use Rattle.numbers.proofs.TestLaws.{bool_cases, or-false-split}
 use Rattle.rules.specs.DayFile.{Item, line, empty_block, items, item_names, file_names}
-use Rattle.file_walk.specs.declared.Cursor.{Cursor}
-use Rattle.file_walk.specs.Walk.{is_more, items_at, past_step, left_items}
 use Rattle.file_names.specs.Names.{is_named, item_has, names_party}
-use Rattle.file_walk.proofs.WalkLaws.{items-step, items-end, past-within, table_step}
 
 -- one mark
 pub marked : (t : List Bool) (n d : ℕ) → d < length t → get_or (set t n true) d false ≡ get_or t d false || eqb n d
@@ -30,42 +27,28 @@ both-marked t a q p n h =
     marked (set t a true) q p (rw (length-set t a true) h)
     ∙ rw (marked t a p h, lt-ltb 0 q (pos_of_ne-zero n), or_assoc (get_or t p false) (eqb a p) (eqb q p))
 
--- what the next head or line holds
-module _ (f : Item → Bool) where
-  pub of_none : {is : List Item} → is ≡ [] → (b : Bool) → b ≡ b || any f is
-  unfolding any
-  of_none e b = rw (e, or-false b)
-
-  pub of_one : (i : Item) {is : List Item} → is ≡ i ∷ [] → any f is ≡ f i
-  unfolding any
-  of_one i e = rw (e, or-false (f i))
-
-  pub names-step : (bs : List ℕ) (c : Cursor) → is_more bs c ≡ true → any f (left_items bs c) ≡ any f (items_at bs c) || any f (left_items bs (past_step bs c))
-  names-step bs c more =
-      rw (items-step bs c more) (any_append f (items_at bs c) (left_items bs (past_step bs c)))
-
 -- a table in a walk: what the whole file names is what the table has, or what is left names
-pub record Marks (names : ℕ → Item → Bool) (bs : List ℕ) (whole t : List Bool) (c : Cursor) : Type 0 where
-  pub within : c.at ≤ length bs
+pub record Marks (names : ℕ → Item → Bool) (is : List Item) (whole t : List Bool) (left : List Item) : Type 0 where
   pub long : length t ≡ length whole
-  pub has : (n : ℕ) → n < length whole → get_or whole n false || any (names n) (items bs) ≡ get_or t n false || any (names n) (left_items bs c)
+  pub has : (n : ℕ) → n < length whole → get_or whole n false || any (names n) is ≡ get_or t n false || any (names n) left
 
-module _ (names : ℕ → Item → Bool) (bs : List ℕ) (whole t : List Bool) (c : Cursor) (w : Marks names bs whole t c) {more : Bool} (e : more ≡ is_more bs c) where
-  -- one head or line
-  pub marks-step : {u : List Bool} {next : Cursor} → more ≡ true → next ≡ past_step bs c → length u ≡ length t →
-      ((n : ℕ) → n < length t → get_or u n false ≡ get_or t n false || any (names n) (items_at bs c)) → Marks names bs whole u next
-  marks-step y p l h =
-      let m = sym e ∙ y in
-      rw p
-      (record {
-        within = (past-within bs c m).1;
-        long = l ∙ w.long;
-        has = λ n b. table_step (get_or t n false) (any (names n) (items_at bs c)) (any (names n) (left_items bs (past_step bs c))) (w.has n b) (names-step (names n) bs c m) (h n (rw w.long b));
-      })
+pub marks-start : (names : ℕ → Item → Bool) (is : List Item) (t : List Bool) → Marks names is t t is
+marks-start names is t = record { long = refl; has = λ n b. refl }
 
-  pub marks-end : more ≡ false → (n : ℕ) → n < length whole → get_or t n false ≡ get_or whole n false || any (names n) (items bs)
+module _ {names : ℕ → Item → Bool} {is left : List Item} {whole t : List Bool} (w : Marks names is whole t left) where
+  -- one item
+  pub marks-step : {i : Item} {next : List Item} {u : List Bool} → left ≡ i ∷ next → length u ≡ length t →
+      ((n : ℕ) → n < length t → get_or u n false ≡ get_or t n false || names n i) → Marks names is whole u next
   unfolding any
-  marks-end y n b = sym (w.has n b ∙ rw (items-end bs c (sym e ∙ y), or-false (get_or t n false)))
+  marks-step {i} {next} e l h =
+      record {
+        long = l ∙ w.long;
+        has = λ n b. w.has n b ∙ rw (e, h n (rw w.long b)) (sym (or_assoc (get_or t n false) (names n i) (any (names n) next)));
+      }
+
+  pub marks-end : left ≡ [] → (n : ℕ) → n < length whole → get_or t n false ≡ get_or whole n false || any (names n) is
+  unfolding any
+  marks-end e n b = sym (w.has n b ∙ rw (e, or-false (get_or t n false)))
 
 -- a party that is not named is named on no day
 not-on-day : (p d : ℕ) (i : Item) → item_has p i ≡ false → item_names p d i ≡ false

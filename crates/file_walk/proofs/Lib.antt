@@ -1,3 +1,3 @@
--- Laws of a walk of a file, and of a pass over it; the folders hold the proof of a function each.
+-- Laws of a reader of a file and of the walks over it; the folders hold the proof of a function each.
+pub mod ReadLaws
 pub mod WalkLaws
-pub mod PassLaws

@@ -1,52 +1,34 @@
--- Laws of a walk of a file's bytes. Assumes nothing.
-use mathlib.Core.Path.{◌≡◌, refl, sym, ◌∙◌}
-use mathlib.Core.Logic.{inl, inr}
-use mathlib.Core.Bool.{Bool, true, false, ◌||◌, or_assoc}
-use mathlib.Core.List.{List, [], ◌∷◌, ◌++◌}
-use Prim.Native.Nat.{ℕ, zero, suc, ◌+◌, ◌-◌, ◌≤◌, ◌<◌}
+-- Laws of the walks of a file's bytes: what the words that a reader takes tell of its items and of its form. Assumes nothing.
+use mathlib.Core.Path.{◌≡◌, refl, ap, ◌∙◌}
+use mathlib.Core.Logic.{◌⊎◌, inl, inr}
+use mathlib.Core.Bool.{Bool, true, false, cond, ◌&&◌}
+use mathlib.Core.List.{List, [], ◌∷◌}
+use Prim.Native.Nat.{ℕ, zero, suc, ◌+◌, ◌-◌, ◌*◌, ◌/◌, ◌%◌, ◌≤◌, ◌<◌}
 use native.Mathlib.Numerals.{add-one, add-two, add-three, add-four}
 use native.Mathlib.Omega.{arith}
-use lib.Dec.{eqb}
 use lib.ListN.{length, get_or, drop, length-drop}
 use lib.Seq.{drop-cons}
-use borrow.Author.Tests.{leb-true, leb-false, le-leb, eq-eqb, ne_eqb}
+use denote.Ref.{Bor}
+use Rattle.std.proofs.Common.{Option, Some, None}
 use Rattle.numbers.proofs.TestLaws.{below-or-above}
-use Rattle.rules.specs.DayFile.{Item, empty_block, head_item, lines_in, items_from, words_of}
-use Rattle.file_walk.specs.declared.Cursor.{Cursor}
-use Rattle.file_walk.specs.declared.Line.{Line}
-use Rattle.file_walk.specs.Read.{found_at, head_from, line_from}
+use Rattle.rules.specs.Entry.{key_of}
+use Rattle.rules.specs.Words.{types, low_amounts, value_of}
+use Rattle.rules.specs.DayFile.{line, head_item, lines_in, party_in, is_head, is_line, is_shaped, items_from, words_of}
 use Rattle.word_bytes.specs.Coding.{word_at}
-use Rattle.file_walk.specs.Walk.{is_more, head_at, past_step, line_at, line_item, items_at, left_items}
-
--- the bytes that a whole head or line has
-module _ (bs : List ℕ) (c : Cursor) (more : is_more bs c ≡ true) where
-  pub head-whole : c.left ≡ 0 → c.at + 8 ≤ length bs
-  unfolding is_more
-  head-whole z = omega (arith, leb-true 8 (length bs - c.at) (rw (eq-eqb c.left 0 z) at more))
-
-  pub line-whole : (c.left ≡ 0 → ⊥) → c.at + 12 ≤ length bs
-  unfolding is_more
-  line-whole n = omega (arith, leb-true 12 (length bs - c.at) (rw (ne_eqb c.left 0 n) at more))
-
--- a reader finds each whole word, and so a whole head and a whole line
-pub found_word : (bs : List ℕ) (at : ℕ) → at + 4 ≤ length bs → found_at bs at ≡ record { whole = true; word = word_at bs at; at = at + 4 }
-unfolding found_at
-found_word bs at h = rw (le-leb (at + 4) (length bs) h)
-
-pub head-found : (bs : List ℕ) (at : ℕ) → at + 8 ≤ length bs → head_from bs at ≡ record { any = true; whole = true; first = word_at bs at; second = word_at bs (at + 4); third = 0 }
-head-found bs at h = rw (found_word bs at (omega arith), found_word bs (at + 4) (omega arith))
-
-pub line-found : (bs : List ℕ) (at : ℕ) → at + 12 ≤ length bs → line_from bs at ≡ record { any = true; whole = true; first = word_at bs at; second = word_at bs (at + 4); third = word_at bs (at + 8) }
-line-found bs at h =
-    let e : at + 8 ≡ at + 4 + 4 = omega arith in
-    rw (e, found_word bs at (omega arith), found_word bs (at + 4) (omega arith), found_word bs (at + 4 + 4) (omega arith))
+use Rattle.file_walk.specs.declared.reader.Reader.{Reader}
+use Rattle.file_walk.specs.declared.walk.Form.{Form}
+use Rattle.file_walk.specs.declared.walk.Form.TheVariants.{Open, Ended, Broken}
+use Rattle.file_walk.specs.declared.walk.Pass.{Pass}
+use Rattle.file_walk.specs.Read.{words_by}
+use Rattle.file_walk.specs.Walk.{head_past, line_past, passed_on}
+use Rattle.file_walk.proofs.ReadLaws.{found_word, found_none}
 
 -- the words of bytes, one at a time
 four : (bs : List ℕ) (at : ℕ) → at + 4 ≤ length bs → drop at bs ≡ get_or bs at 0 ∷ get_or bs (at + 1) 0 ∷ get_or bs (at + 2) 0 ∷ get_or bs (at + 3) 0 ∷ drop (at + 4) bs
 four bs at h =
     rw (add-one at, add-two at, add-three at, add-four at, drop-cons bs at 0 (omega arith), drop-cons bs (suc at) 0 (omega arith), drop-cons bs (suc (suc at)) 0 (omega arith), drop-cons bs (suc (suc (suc at))) 0 (omega arith))
 
-pub words-cons : (bs : List ℕ) (at : ℕ) → at + 4 ≤ length bs → words_of (drop at bs) ≡ word_at bs at ∷ words_of (drop (at + 4) bs)
+words-cons : (bs : List ℕ) (at : ℕ) → at + 4 ≤ length bs → words_of (drop at bs) ≡ word_at bs at ∷ words_of (drop (at + 4) bs)
 unfolding words_of word_at
 words-cons bs at h = rw (four bs at h)
 
@@ -59,101 +41,162 @@ no_word (a ∷ b ∷ []) h = refl
 no_word (a ∷ b ∷ c ∷ []) h = refl
 no_word (a ∷ b ∷ c ∷ d ∷ bs) h = absurd (omega arith)
 
-pub words-end : (bs : List ℕ) (at : ℕ) → length bs - at < 4 → words_of (drop at bs) ≡ []
-words-end bs at h = no_word (drop at bs) (rw (length-drop at bs) h)
+-- words that were taken, and then others: none comes after one that was not whole
+abbrev pub seen : List (Option ℕ) → List ℕ → List ℕ
+seen [] ws = ws
+seen (None ∷ os) ws = []
+seen (Some w ∷ os) ws = w ∷ seen os ws
 
-pub some : (n : ℕ) → eqb (suc n) 0 ≡ false
-some n = ne_eqb (suc n) 0 (λ z. absurd (omega arith))
+-- the words from a reader on, and from where it then comes to
+abbrev pub words_left : Reader → List ℕ
+words_left r = words_of (drop r.at r.bytes.now)
 
--- one head or line, and what is left after it
-head-items : (bs : List ℕ) (at p d : ℕ) → at + 8 ≤ length bs → items_from 0 p d (words_of (drop at bs)) ≡ head_item (head_at bs at).left (head_at bs at).party (head_at bs at).day [] ++ left_items bs (head_at bs at)
-unfolding items_from head_at
-head-items bs at p d h =
-    let e : at + 8 ≡ at + 4 + 4 = omega arith in
-    rw (e, words-cons bs at (omega arith), words-cons bs (at + 4) (omega arith)) (joined (lines_in (word_at bs at)) _ _ _)
-  where
-    joined : (n p d : ℕ) (is : List Item) → head_item n p d is ≡ head_item n p d [] ++ is
-    joined zero p d is = refl
-    joined (suc n) p d is = refl
-
-line-items : (bs : List ℕ) (at n p d : ℕ) → at + 12 ≤ length bs → items_from (suc n) p d (words_of (drop at bs)) ≡ line_item (line_at bs (record { at = at; left = suc n; party = p; day = d })) ∷ items_from n p d (words_of (drop (at + 12) bs))
-unfolding items_from line_at
-line-items bs at n p d h =
-    let e : at + 12 ≡ at + 8 + 4 = omega arith in
-    let f : at + 8 ≡ at + 4 + 4 = omega arith in
-    rw (e, f, words-cons bs at (omega arith), words-cons bs (at + 4) (omega arith), words-cons bs (at + 4 + 4) (omega arith))
-
-pub items-step : (bs : List ℕ) (c : Cursor) → is_more bs c ≡ true → left_items bs c ≡ items_at bs c ++ left_items bs (past_step bs c)
-unfolding items_at past_step
-items-step bs c more = go c.left refl
-  where
-    go : (n : ℕ) → c.left ≡ n → left_items bs c ≡ items_at bs c ++ left_items bs (past_step bs c)
-    go zero e = rw e (head-items bs c.at c.party c.day (head-whole bs c more e))
-    go (suc n) e =
-        let f : suc n - 1 ≡ n = omega arith in
-        rw (e, some n, f) (line-items bs c.at n c.party c.day (line-whole bs c more (λ z. absurd (omega arith))))
-
--- what the next head or line holds, by what was read there
-module _ (bs : List ℕ) (c : Cursor) where
-  module _ (z : c.left ≡ 0) (h : Cursor) (e : h ≡ head_at bs c.at) where
-    pub block_held : h.left ≡ 0 → items_at bs c ≡ empty_block h.party h.day ∷ []
-    unfolding items_at
-    block_held n = rw (eq-eqb c.left 0 z, ← e, n)
-
-    pub nothing-held : (h.left ≡ 0 → ⊥) → items_at bs c ≡ []
-    unfolding items_at
-    nothing-held n = rw (eq-eqb c.left 0 z, ← e) (no_item h.left n)
-      where
-        no_item : (k : ℕ) → (k ≡ 0 → ⊥) → head_item k h.party h.day [] ≡ []
-        no_item zero n = absurd (n refl)
-        no_item (suc k) n = refl
-
-  pub line-held : (c.left ≡ 0 → ⊥) → (l : Line) → l ≡ line_at bs c → items_at bs c ≡ line_item l ∷ []
-  unfolding items_at
-  line-held n l e = rw (ne_eqb c.left 0 n, ← e)
-
--- where no head or line is whole, no item is left
-no-head : (bs : List ℕ) (at p d : ℕ) → length bs - at < 8 → items_from 0 p d (words_of (drop at bs)) ≡ []
-unfolding items_from
-no-head bs at p d h =
-    elim (below-or-above (length bs - at) 4) [
-      | inl l ↦ rw (words-end bs at l)
-      | inr l ↦ rw (words-cons bs at (omega arith), words-end bs (at + 4) (omega arith))
+pub words-seen : (n : ℕ) (r : Reader) → words_left r ≡ seen (words_by n r).1 (words_left (words_by n r).0)
+words-seen zero r = refl
+words-seen (suc n) r =
+    elim (below-or-above (length r.bytes.now) (r.at + 4)) [
+      | inl l ↦ rw (found_none r.bytes.now r.at l) (no_word (drop r.at r.bytes.now) (rw (length-drop r.at r.bytes.now) (omega arith)))
+      | inr h ↦
+          rw (found_word r.bytes.now r.at h)
+          (words-cons r.bytes.now r.at h ∙ ap (λ ws. word_at r.bytes.now r.at ∷ ws) (words-seen n (record { bytes = r.bytes; at = r.at + 4 })))
     ]
 
-no_line : (bs : List ℕ) (at n p d : ℕ) → length bs - at < 12 → items_from (suc n) p d (words_of (drop at bs)) ≡ []
-unfolding items_from
-no_line bs at n p d h =
-    elim (below-or-above (length bs - at) 4) [
-      | inl l ↦ rw (words-end bs at l)
-      | inr l ↦
-          elim (below-or-above (length bs - at) 8) [
-            | inl m ↦ rw (words-cons bs at (omega arith), words-end bs (at + 4) (omega arith))
-            | inr m ↦ rw (words-cons bs at (omega arith), words-cons bs (at + 4) (omega arith), words-end bs (at + 4 + 4) (omega arith))
+-- what the two words of a head hold
+module _ (r : Reader) {t : Reader × List (Option ℕ)} (e : t ≡ words_by 2 r) (p d : ℕ) where
+  pub head-held : {w x : ℕ} → get_or t.1 0 None ≡ Some w → get_or t.1 1 None ≡ Some x → items_from 0 p d (words_left r) ≡ head_item (lines_in w) (party_in w) (value_of x) (items_from (lines_in w) (party_in w) (value_of x) (words_left t.0))
+  unfolding items_from
+  head-held a b = rw (words-seen 2 r, e) (go _ _ (words_left (words_by 2 r).0) (rw e at a) (rw e at b))
+    where
+      go : (f g : Option ℕ) (ws : List ℕ) {w x : ℕ} → f ≡ Some w → g ≡ Some x → items_from 0 p d (seen (f ∷ g ∷ []) ws) ≡ head_item (lines_in w) (party_in w) (value_of x) (items_from (lines_in w) (party_in w) (value_of x) ws)
+      go f g ws a b = rw (a, b)
+
+  no-head : (f g : Option ℕ) (ws : List ℕ) → (f ≡ None) ⊎ (g ≡ None) → items_from 0 p d (seen (f ∷ g ∷ []) ws) ≡ []
+  unfolding items_from
+  no-head None g ws h = refl
+  no-head (Some w) None ws h = refl
+  no-head (Some w) (Some x) ws (inl a) = (cc)
+  no-head (Some w) (Some x) ws (inr b) = (cc)
+
+  pub head-cut : (get_or t.1 0 None ≡ None) ⊎ (get_or t.1 1 None ≡ None) → items_from 0 p d (words_left r) ≡ []
+  head-cut h = rw (words-seen 2 r) (no-head _ _ (words_left (words_by 2 r).0) (rw e at h))
+
+-- what the three words of a line hold
+module _ (r : Reader) {t : Reader × List (Option ℕ)} (e : t ≡ words_by 3 r) (p d : ℕ) where
+  pub line-held : (n : ℕ) {w x y : ℕ} → 0 < n → get_or t.1 0 None ≡ Some w → get_or t.1 1 None ≡ Some x → get_or t.1 2 None ≡ Some y →
+      items_from n p d (words_left r) ≡ line (key_of p d (value_of w % types) (value_of w / types)) (value_of x + value_of y * low_amounts) ∷ items_from (n - 1) p d (words_left t.0)
+  unfolding items_from
+  line-held zero h a b c = absurd (omega arith)
+  line-held (suc n) h a b c = let k : suc n - 1 ≡ n = omega arith in rw (words-seen 3 r, e, k) (go _ _ _ (words_left (words_by 3 r).0) (rw e at a) (rw e at b) (rw e at c))
+    where
+      go : (f g k : Option ℕ) (ws : List ℕ) {w x y : ℕ} → f ≡ Some w → g ≡ Some x → k ≡ Some y →
+          items_from (suc n) p d (seen (f ∷ g ∷ k ∷ []) ws) ≡ line (key_of p d (value_of w % types) (value_of w / types)) (value_of x + value_of y * low_amounts) ∷ items_from n p d ws
+      go f g k ws a b c = rw (a, b, c)
+
+  no-line : (n : ℕ) (f g k : Option ℕ) (ws : List ℕ) → (f ≡ None) ⊎ ((g ≡ None) ⊎ (k ≡ None)) → items_from (suc n) p d (seen (f ∷ g ∷ k ∷ []) ws) ≡ []
+  unfolding items_from
+  no-line n None g k ws h = refl
+  no-line n (Some w) None k ws h = refl
+  no-line n (Some w) (Some x) None ws h = refl
+  no-line n (Some w) (Some x) (Some y) ws (inl a) = (cc)
+  no-line n (Some w) (Some x) (Some y) ws (inr (inl b)) = (cc)
+  no-line n (Some w) (Some x) (Some y) ws (inr (inr c)) = (cc)
+
+  pub line-cut : (n : ℕ) → 0 < n → (get_or t.1 0 None ≡ None) ⊎ ((get_or t.1 1 None ≡ None) ⊎ (get_or t.1 2 None ≡ None)) → items_from n p d (words_left r) ≡ []
+  line-cut zero z h = absurd (omega arith)
+  line-cut (suc n) z h = rw (words-seen 3 r) (no-line n _ _ _ (words_left (words_by 3 r).0) (rw e at h))
+
+-- what is left of a file decides by its form so far
+abbrev pub shape : Form → List ℕ → Bool
+shape (Open n) ws = is_shaped n ws
+shape Ended ws = true
+shape Broken ws = false
+
+head-shape : (f g : Option ℕ) (ws : List ℕ) → shape (head_past (f ∷ g ∷ [])) ws ≡ is_shaped 0 (seen (f ∷ g ∷ []) ws)
+unfolding is_shaped
+head-shape None g ws = refl
+head-shape (Some w) None ws = refl
+head-shape (Some w) (Some x) ws = go (is_head w x)
+  where
+    go : (b : Bool) → shape (cond b (Open (lines_in w)) Broken) ws ≡ b && is_shaped (lines_in w) ws
+    go true = refl
+    go false = refl
+
+line-shape : (n : ℕ) (f g k : Option ℕ) (ws : List ℕ) → shape (line_past (suc n) (f ∷ g ∷ k ∷ [])) ws ≡ is_shaped (suc n) (seen (f ∷ g ∷ k ∷ []) ws)
+unfolding is_shaped
+line-shape n None g k ws = refl
+line-shape n (Some w) None k ws = refl
+line-shape n (Some w) (Some x) None ws = refl
+line-shape n (Some w) (Some x) (Some y) ws = let k : suc n - 1 ≡ n = omega arith in rw k (go (is_line w x y))
+  where
+    go : (b : Bool) → shape (cond b (Open n) Broken) ws ≡ b && is_shaped n ws
+    go true = refl
+    go false = refl
+
+-- one head or line more tells the same
+pub pass-shape : (r : Reader) (left : ℕ) → shape (passed_on r left).form (words_left (passed_on r left).reader) ≡ is_shaped left (words_left r)
+pass-shape r zero = rw (words-seen 2 r) (head-shape _ _ (words_left (words_by 2 r).0))
+pass-shape r (suc n) = rw (words-seen 3 r) (line-shape n _ _ _ (words_left (words_by 3 r).0))
+
+-- where the form goes on, all words were whole, and the reader has come further within its bytes
+pub further : (r : Reader) (left : ℕ) {k : ℕ} → (passed_on r left).form ≡ Open k → (r.at < (passed_on r left).reader.at) × ((passed_on r left).reader.at ≤ length r.bytes.now)
+further r zero e =
+    elim (below-or-above (length r.bytes.now) (r.at + 4)) [
+      | inl l ↦ absurd (let x = rw (found_none r.bytes.now r.at l) at e in cc)
+      | inr m ↦
+          elim (below-or-above (length r.bytes.now) (r.at + 4 + 4)) [
+            | inl l ↦ absurd (let x = rw (found_word r.bytes.now r.at m, found_none r.bytes.now (r.at + 4) l) at e in cc)
+            | inr o ↦ rw (found_word r.bytes.now r.at m, found_word r.bytes.now (r.at + 4) o) (omega arith, o)
+          ]
+    ]
+further r (suc n) e =
+    elim (below-or-above (length r.bytes.now) (r.at + 4)) [
+      | inl l ↦ absurd (let x = rw (found_none r.bytes.now r.at l) at e in cc)
+      | inr m ↦
+          elim (below-or-above (length r.bytes.now) (r.at + 4 + 4)) [
+            | inl l ↦ absurd (let x = rw (found_word r.bytes.now r.at m, found_none r.bytes.now (r.at + 4) l) at e in cc)
+            | inr o ↦
+                elim (below-or-above (length r.bytes.now) (r.at + 4 + 4 + 4)) [
+                  | inl l ↦ absurd (let x = rw (found_word r.bytes.now r.at m, found_word r.bytes.now (r.at + 4) o, found_none r.bytes.now (r.at + 4 + 4) l) at e in cc)
+                  | inr q ↦ rw (found_word r.bytes.now r.at m, found_word r.bytes.now (r.at + 4) o, found_word r.bytes.now (r.at + 4 + 4) q) (omega arith, q)
+                ]
           ]
     ]
 
-pub items-end : (bs : List ℕ) (c : Cursor) → is_more bs c ≡ false → left_items bs c ≡ []
-unfolding is_more
-items-end bs c more = go c.left refl
-  where
-    go : (n : ℕ) → c.left ≡ n → left_items bs c ≡ []
-    go zero e = rw e (no-head bs c.at c.party c.day (leb-false 8 (length bs - c.at) (rw e at more)))
-    go (suc n) e = rw e (no_line bs c.at n c.party c.day (leb-false 12 (length bs - c.at) (rw (e, some n) at more)))
+-- a reader keeps its bytes
+same-bytes : (r : Reader) (left : ℕ) → (passed_on r left).reader.bytes ≡ r.bytes
+same-bytes r zero = refl
+same-bytes r (suc n) = refl
 
--- a step stays within the file, and goes on
-pub past-within : (bs : List ℕ) (c : Cursor) → is_more bs c ≡ true → (c.at < (past_step bs c).at) × ((past_step bs c).at ≤ length bs)
-unfolding past_step head_at
-past-within bs c more = go c.left refl
-  where
-    go : (n : ℕ) → c.left ≡ n → (c.at < (past_step bs c).at) × ((past_step bs c).at ≤ length bs)
-    go zero e = rw e (omega (arith, head-whole bs c more e))
-    go (suc n) e = rw (e, some n) (omega (arith, line-whole bs c more (λ z. absurd (omega arith))))
+-- a pass over the bytes bs, in a walk of the whole file: what is left decides
+pub record Along (bs : List ℕ) (p : Pass) : Type 0 where
+  pub bytes : p.reader.bytes.now ≡ bs
+  pub same : shape p.form (words_left p.reader) ≡ is_shaped 0 (words_of bs)
 
--- and comes nearer to the end
-pub walk-less : (bs : List ℕ) (c : Cursor) {more : Bool} {next : Cursor} → more ≡ is_more bs c → more ≡ true → next ≡ past_step bs c → length bs - next.at < length bs - c.at
-walk-less bs c e y p = rw p (omega (arith, past-within bs c (sym e ∙ y)))
+-- how much of it is left to read
+abbrev pub unread : Form → ℕ → ℕ
+unread (Open n) k = suc k
+unread Ended k = 0
+unread Broken k = 0
 
--- a table of flags in a walk: one entry more in the table, one fewer to come
-pub table_step : (a m rest : Bool) {whole before after : Bool} → whole ≡ a || before → before ≡ m || rest → after ≡ a || m → whole ≡ after || rest
-table_step a m rest w b e = w ∙ rw (b, e, or_assoc a m rest)
+abbrev pub to_come : Pass → ℕ
+to_come p = unread p.form (length p.reader.bytes.now - p.reader.at)
+
+-- where a pass begins
+pub along-start : (bs : List ℕ) (r : Reader) → r.bytes.now ≡ bs → r.at ≡ 0 → Along bs (record { reader = r; form = Open 0 })
+along-start bs r b z = record { bytes = b; same = rw (b, z) }
+
+module _ {bs : List ℕ} {p : Pass} (a : Along bs p) {left : ℕ} (on : p.form ≡ Open left) {next : Pass} (e : next ≡ passed_on p.reader left) where
+  pub along-on : Along bs next
+  along-on =
+      record {
+        bytes = rw e (ap (λ (b : Bor (List ℕ)). b.now) (same-bytes p.reader left) ∙ a.bytes);
+        same = rw e (pass-shape p.reader left ∙ (rw on at a).same);
+      }
+
+  pub less-on : to_come next < to_come p
+  less-on = rw (e, on) (go (passed_on p.reader left).form (λ k. further p.reader left))
+    where
+      go : (f : Form) → ((k : ℕ) → f ≡ Open k → (p.reader.at < (passed_on p.reader left).reader.at) × ((passed_on p.reader left).reader.at ≤ length p.reader.bytes.now)) → unread f (length (passed_on p.reader left).reader.bytes.now - (passed_on p.reader left).reader.at) < suc (length p.reader.bytes.now - p.reader.at)
+      go (Open k) h = rw (same-bytes p.reader left) (omega (arith, h k refl))
+      go Ended h = omega arith
+      go Broken h = omega arith

@@ -1,75 +1,76 @@
 -- Laws of what a host writes: figures that fit their bits are read back as they were written. Assumes nothing.
-use mathlib.Core.Path.{◌≡◌, ◌∙◌}
-use mathlib.Core.Bool.{Bool, true, false}
+use mathlib.Core.Path.{◌≡◌, refl, ◌∙◌}
+use mathlib.Core.Bool.{Bool, true, false, cond}
+use Rattle.std.proofs.Common.{Result, Ok, Err}
 use mathlib.Core.List.{List, [], ◌∷◌}
 use Prim.Native.Nat.{ℕ, suc, ◌+◌, ◌*◌, ◌/◌, ◌%◌, ◌≤◌, ◌<◌}
-use native.Mathlib.Nat.{add-zero, div-div-eq-div-mul}
+use native.Mathlib.Nat.{div-div-eq-div-mul}
 use native.Mathlib.Omega.{arith}
 use lib.Dec.{leb, ltb}
 use lib.ListN.{length, get_or, set, length-set}
 use lib.Seq.{get_or-set_same, get_or-set_other}
 use borrow.Author.Tests.{leb-true, ltb-true, lt-ltb}
-use Rattle.numbers.specs.Tests.{every}
 use Rattle.numbers.specs.Causes.{unless}
 use Rattle.numbers.proofs.TestLaws.{every_holds}
 use Rattle.numbers.proofs.CauseLaws.{unless-zero, clear-all}
 use Rattle.rules.specs.Entry.{key_of}
-use Rattle.rules.specs.Words.{values, types, counterparties, status_unit, low_amounts, word, value_of, type_bits}
+use Rattle.rules.specs.Words.{values, types, counterparties, status_unit, low_amounts, value_of, type_bits}
 use Rattle.rules.specs.DayFile.{parties, high_amounts, line, lines_in, party_in, is_head, is_line, items_from}
 use Rattle.rules.proofs.WordLaws.{word-kind, word_value}
+use Rattle.rules.specs.declared.refusal.Refusal.{Refusal}
+use Rattle.rules.specs.declared.refusal.Refusal.TheVariants.{BadFigure}
 use Rattle.file_writer.specs.declared.HeadWords.{HeadWords}
 use Rattle.file_writer.specs.declared.LineWords.{LineWords}
 use Rattle.word_bytes.specs.Coding.{word_at}
 use Rattle.file_writer.specs.Write.{block_lines, head_fits, head_words, line_fits, line_words, bytes_at, put_cause, put_words}
 
--- whether the figures of a head, and of a line, fit their bits
-abbrev head_tests : ℕ → ℕ → ℕ → List Bool
-head_tests p d n = ltb p parties ∷ ltb d values ∷ ltb n block_lines ∷ []
-
-abbrev line_tests : ℕ → ℕ → ℕ → List Bool
-line_tests t c a = ltb t types ∷ ltb c counterparties ∷ ltb a (low_amounts * high_amounts) ∷ []
-
-pub head_in : (p d n : ℕ) → every (head_tests p d n) ≡ true → (p < parties) × (d < values) × (n < block_lines)
+pub head_in : (p d n : ℕ) → head_fits p d n ≡ true → (p < parties) × (d < values) × (n < block_lines)
 head_in p d n e =
-    let h = every_holds (head_tests p d n) e in
+    let h = every_holds (ltb p parties ∷ ltb d values ∷ ltb n block_lines ∷ []) e in
     (ltb-true p parties h.0, ltb-true d values h.1.0, ltb-true n block_lines h.1.1.0)
 
-pub line-in : (t c a : ℕ) → every (line_tests t c a) ≡ true → (t < types) × (c < counterparties) × (a < low_amounts * high_amounts)
+pub line-in : (t c a : ℕ) → line_fits t c a ≡ true → (t < types) × (c < counterparties) × (a < low_amounts * high_amounts)
 line-in t c a e =
-    let h = every_holds (line_tests t c a) e in
+    let h = every_holds (ltb t types ∷ ltb c counterparties ∷ ltb a (low_amounts * high_amounts) ∷ []) e in
     (ltb-true t types h.0, ltb-true c counterparties h.1.0, ltb-true a (low_amounts * high_amounts) h.1.1.0)
 
--- a head that was written is a head, and its figures are read back
-pub record HeadBack (p d n : ℕ) : Type 0 where
-  pub is-head : is_head (head_words p d n).first (head_words p d n).second ≡ true
-  pub party : party_in (head_words p d n).first ≡ p
-  pub lines : lines_in (head_words p d n).first ≡ n
-  pub day : value_of (head_words p d n).second ≡ d
+-- what was made fits
+of-done : {A : Type 0} (b : Bool) {x y : A} → ◌≡◌ {A = Result A Refusal} (cond b (Ok x) (Err BadFigure)) (Ok y) → (b ≡ true) × (x ≡ y)
+of-done true e = (refl, cc)
+of-done false e = absurd (cc)
 
-pub head-back : (p d n : ℕ) → (head_words p d n).answer ≡ 0 → HeadBack p d n
-unfolding head_words head_fits
+-- a head that was written is a head, and its figures are read back
+pub record HeadBack (p d n : ℕ) (w : HeadWords) : Type 0 where
+  pub is-head : is_head w.first w.second ≡ true
+  pub party : party_in w.first ≡ p
+  pub lines : lines_in w.first ≡ n
+  pub day : value_of w.second ≡ d
+
+pub head-back : (p d n : ℕ) {w : HeadWords} → head_words p d n ≡ Ok w → HeadBack p d n w
+unfolding head_words
 head-back p d n e =
-    let f = unless-zero (every (head_tests p d n)) 11 (clear-all (unless (every (head_tests p d n)) 12 ∷ []) e).0 in
-    let h = head_in p d n f in
+    let f = of-done (head_fits p d n) e in
+    let h = head_in p d n f.0 in
     let k = word-kind 1 (p + n * parties) (omega arith) in
     let v = word_value 1 (p + n * parties) (omega arith) in
-    record {
-      is-head = rw (f, k, word-kind 2 d (omega arith));
-      party = rw (f, v) (omega arith);
-      lines = rw (f, v) (omega arith);
-      day = rw f (word_value 2 d (omega arith));
-    }
+    rw (← f.1)
+    (record {
+      is-head = rw (k, word-kind 2 d (omega arith));
+      party = rw v (omega arith);
+      lines = rw v (omega arith);
+      day = word_value 2 d (omega arith);
+    })
 
 -- a line that was written is a line, and is read back as the item it was
-pub record LineBack (t c a : ℕ) : Type 0 where
-  pub is-line : is_line (line_words t c a).figures (line_words t c a).low (line_words t c a).high ≡ true
-  pub reads : (n p d : ℕ) (ws : List ℕ) → items_from (suc n) p d ((line_words t c a).figures ∷ (line_words t c a).low ∷ (line_words t c a).high ∷ ws) ≡ line (key_of p d t c) a ∷ items_from n p d ws
+pub record LineBack (t c a : ℕ) (w : LineWords) : Type 0 where
+  pub is-line : is_line w.figures w.low w.high ≡ true
+  pub reads : (n p d : ℕ) (ws : List ℕ) → items_from (suc n) p d (w.figures ∷ w.low ∷ w.high ∷ ws) ≡ line (key_of p d t c) a ∷ items_from n p d ws
 
-pub line-back : (t c a : ℕ) → (line_words t c a).answer ≡ 0 → LineBack t c a
-unfolding line_words line_fits items_from
+pub line-back : (t c a : ℕ) {w : LineWords} → line_words t c a ≡ Ok w → LineBack t c a w
+unfolding line_words items_from
 line-back t c a e =
-    let f = unless-zero (every (line_tests t c a)) 11 (clear-all (unless (every (line_tests t c a)) 12 ∷ []) e).0 in
-    let h = line-in t c a f in
+    let f = of-done (line_fits t c a) e in
+    let h = line-in t c a f.0 in
     let k = word-kind 3 (type_bits t c 0) (omega arith) in
     let v = word_value 3 (type_bits t c 0) (omega arith) in
     let type : type_bits t c 0 % types ≡ t = omega arith in
@@ -78,10 +79,11 @@ line-back t c a e =
     let amount : a % low_amounts + a / low_amounts * low_amounts ≡ a = omega arith in
     let low = word_value 4 (a % low_amounts) (omega arith) in
     let high = word_value 5 (a / low_amounts) (omega arith) in
-    record {
-      is-line = rw (f, k, v, word-kind 4 (a % low_amounts) (omega arith), word-kind 5 (a / low_amounts) (omega arith), high, lt-ltb (type_bits t c 0) status_unit (omega arith), lt-ltb (a / low_amounts) high_amounts top);
-      reads = λ n p d ws. rw (f, v, low, high, type, party, amount);
-    }
+    rw (← f.1)
+    (record {
+      is-line = rw (k, v, word-kind 4 (a % low_amounts) (omega arith), word-kind 5 (a / low_amounts) (omega arith), high, lt-ltb (type_bits t c 0) status_unit (omega arith), lt-ltb (a / low_amounts) high_amounts top);
+      reads = λ n p d ws. rw (v, low, high, type, party, amount);
+    })
 
 -- a word that was written is read back
 pub put_in : (lent at : ℕ) → put_cause lent at ≡ 0 → at + 4 ≤ lent
@@ -128,28 +130,3 @@ pub word_back : (bs : List ℕ) (at w : ℕ) → put_cause (length bs) at ≡ 0 
 unfolding put_words bytes_at
 word_back bs at w e =
     rw e (word-of-four bs at (w % 256) (w / 256 % 256) (w / 65536 % 256) (w / 16777216) (put_in (length bs) at e) ∙ bytes-sum w)
-
--- what the code answers, by its test
-module _ (p d n : ℕ) where
-  abbrev fits_head : Bool
-  fits_head = every (head_tests p d n)
-
-  pub head-refused : fits_head ≡ false → ◌≡◌ {A = HeadWords} (record { answer = 12; first = 0; second = 0 }) (head_words p d n)
-  unfolding head_words head_fits
-  head-refused e = rw e
-
-  pub head-written : fits_head ≡ true → ◌≡◌ {A = HeadWords} (record { answer = 0; first = word 1 (p + n * parties); second = word 2 d }) (head_words p d n)
-  unfolding head_words head_fits
-  head-written e = rw e
-
-module _ (t c a : ℕ) where
-  abbrev fits_line : Bool
-  fits_line = every (line_tests t c a)
-
-  pub line_refused : fits_line ≡ false → ◌≡◌ {A = LineWords} (record { answer = 12; figures = 0; low = 0; high = 0 }) (line_words t c a)
-  unfolding line_words line_fits
-  line_refused e = rw e
-
-  pub line-written : fits_line ≡ true → ◌≡◌ {A = LineWords} (record { answer = 0; figures = word 3 (t + c * types); low = word 4 (a % low_amounts); high = word 5 (a / low_amounts) }) (line_words t c a)
-  unfolding line_words line_fits
-  line-written e = rw (e, add-zero (t + c * types))

@@ -1,11 +1,13 @@
 -- A block's head and a line as words, and a word as bytes: what a host writes that a file's reader reads (01, 'Day file').
-use Rattle.std.specs.Prelude.{List, [], ◌∷◌, ℕ, ◌+◌, ◌*◌, ◌/◌, ◌%◌, leb, ltb, length, set}
+use Rattle.std.specs.Prelude.{Bool, cond, Result, Ok, Err, List, [], ◌∷◌, ℕ, ◌+◌, ◌*◌, ◌/◌, ◌%◌, leb, ltb, length, set}
 use Rattle.numbers.specs.Tests.{every}
 use Rattle.numbers.specs.Causes.{unless, first_of, if_done}
-use Rattle.rules.specs.Refusals.{bad_length, bad_figure}
+use Rattle.rules.specs.Refusals.{bad_length}
 use Rattle.rules.specs.Words.{values, types, counterparties, low_amounts, word, type_bits}
 use Rattle.rules.specs.DayFile.{parties, high_amounts}
 use Rattle.rules.specs.Entry.{standing}
+use Rattle.rules.specs.declared.refusal.Refusal.{Refusal}
+use Rattle.rules.specs.declared.refusal.Refusal.TheVariants.{BadFigure}
 use Rattle.file_writer.specs.declared.HeadWords.{HeadWords}
 use Rattle.file_writer.specs.declared.LineWords.{LineWords}
 
@@ -14,29 +16,23 @@ abbrev pub block_lines : ℕ
 block_lines = 4096
 
 -- each figure fits its bits: party 0-15, lines 16-27, day 0-27
-unfoldable pub head_fits : ℕ → ℕ → ℕ → ℕ
-head_fits p d n = first_of (unless (every (ltb p parties ∷ ltb d values ∷ ltb n block_lines ∷ [])) bad_figure ∷ [])
+abbrev pub head_fits : ℕ → ℕ → ℕ → Bool
+head_fits p d n = every (ltb p parties ∷ ltb d values ∷ ltb n block_lines ∷ [])
 
-unfoldable pub head_words : ℕ → ℕ → ℕ → HeadWords
+unfoldable pub head_words : ℕ → ℕ → ℕ → Result HeadWords Refusal
 head_words p d n =
-    record {
-      answer = head_fits p d n;
-      first = if_done (head_fits p d n) (word 1 (p + n * parties)) 0;
-      second = if_done (head_fits p d n) (word 2 d) 0;
-    }
+    cond (head_fits p d n) (Ok (record { first = word 1 (p + n * parties); second = word 2 d })) (Err BadFigure)
 
 -- type, counterparty and amount, as a line's words have bits for them
-unfoldable pub line_fits : ℕ → ℕ → ℕ → ℕ
-line_fits t c a = first_of (unless (every (ltb t types ∷ ltb c counterparties ∷ ltb a (low_amounts * high_amounts) ∷ [])) bad_figure ∷ [])
+abbrev pub line_fits : ℕ → ℕ → ℕ → Bool
+line_fits t c a = every (ltb t types ∷ ltb c counterparties ∷ ltb a (low_amounts * high_amounts) ∷ [])
 
-unfoldable pub line_words : ℕ → ℕ → ℕ → LineWords
+unfoldable pub line_words : ℕ → ℕ → ℕ → Result LineWords Refusal
 line_words t c a =
-    record {
-      answer = line_fits t c a;
-      figures = if_done (line_fits t c a) (word 3 (type_bits t c standing)) 0;
-      low = if_done (line_fits t c a) (word 4 (a % low_amounts)) 0;
-      high = if_done (line_fits t c a) (word 5 (a / low_amounts)) 0;
-    }
+    cond
+    (line_fits t c a)
+    (Ok (record { figures = word 3 (type_bits t c standing); low = word 4 (a % low_amounts); high = word 5 (a / low_amounts) }))
+    (Err BadFigure)
 
 -- a word's four bytes, lowest first
 unfoldable pub bytes_at : List ℕ → ℕ → ℕ → List ℕ

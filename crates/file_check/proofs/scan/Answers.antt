@@ -1,39 +1,31 @@
-use mathlib.Core.Path.{◌≡◌, refl, sym, ◌∙◌}
-use mathlib.Core.Bool.{true}
-use Prim.Native.Nat.{zero-le}
+use mathlib.Core.Path.{◌∙◌}
 use native.Mathlib.Omega.{arith}
-use Rattle.rules.specs.DayFile.{items, lines_of}
-use Rattle.file_walk.specs.Walk.{is_more}
-use Rattle.file_walk.proofs.WalkLaws.{items-end, past-within, walk-less}
-use Rattle.file_check.proofs.CheckLaws.{cause-stops, cause-goes-on, lines_step, lines_at-most, scan-refused, scan-done}
+use Rattle.std.proofs.lemmas.Result.{err_from_is_err_and}
+use Rattle.rules.specs.DayFile.{lines_of}
+use Rattle.rules.proofs.RefusalLaws.{number-not_zero}
+use Rattle.file_walk.specs.Walk.{item_in}
+use Rattle.file_check.proofs.CheckLaws.{item-fails, item-passes, one_more, lines-fit}
+use Rattle.file_check.proofs.AnswerLaws.{scan-refused, scan-done}
 use Rattle.file_check.proofs.scan.Goals as goal
 
-pub loop-c-init : goal.loop-c-init
-unfolding items
-loop-c-init c = rw c.begin-c.ensures (zero-le, zero-le, refl, omega arith)
+pub returns-in_err-lines : goal.returns-in_err-lines
+returns-in_err-lines c =
+    let p = err_from_is_err_and c.from_residual.result c.from_residual.ensures.1 in
+    λ rs t. rw (p.1, p.2) (scan-refused rs _ _ t (c.loop-item.invariant.0 ∙ item-fails _ (item_in c.in-Some.item) c.in-Some.ensures.steps c.in_err-lines.ensures.answer (number-not_zero _)) (number-not_zero _))
 
-pub returns-then-cause-ne0 : goal.returns-then-cause-ne0
-returns-then-cause-ne0 c =
-    let more : is_more c.args.file.now c.loop-c.c ≡ true = sym c.more.ensures ∙ c.loop-c-test.true in
-    scan-refused _ _ _ (c.loop-c.invariant.2 ∙ cause-stops _ _ more _ c.cause_at-cause.ensures c.if-cause-ne0.true) c.if-cause-ne0.true
+pub overflow_add-lines : goal.overflow_add-lines
+overflow_add-lines c =
+    omega (arith, c.loop-item.invariant.1, one_more (item_in c.in-Some.item) c.in-Some.ensures.steps, c.in_ok-lines.ensures.ok, lines-fit c.args.file.now, c.requires)
 
-pub loop-c-smaller : goal.loop-c-smaller
-loop-c-smaller c = search walk-less
-
-pub loop-c-preserved : goal.loop-c-preserved
-loop-c-preserved c =
-    let more : is_more c.args.file.now c.loop-c.c ≡ true = sym c.more.ensures ∙ c.loop-c-test.true in
-    let v = c.loop-c.invariant in
-    let w = past-within _ _ more in
-    rw (c.advance-c.ensures, c.lines_at-lines.ensures) (
-      w.1,
-      omega (arith, lines_at-most c.loop-c.c, w.0),
-      v.2 ∙ cause-goes-on _ _ more _ c.cause_at-cause.ensures c.if-cause-ne0.false,
-      omega (arith, v.3, lines_step _ _ more),
+pub loop-item-preserved : goal.loop-item-preserved
+loop-item-preserved c =
+    let i = item_in c.in-Some.item in (
+      c.loop-item.invariant.0 ∙ item-passes _ i c.in-Some.ensures.steps c.in_ok-lines.ensures.answer,
+      omega (arith, c.loop-item.invariant.1, one_more i c.in-Some.ensures.steps, c.in_ok-lines.ensures.ok),
     )
 
 pub returns : goal.returns
 unfolding lines_of
 returns c =
-    let e = items-end _ _ (sym c.more.ensures ∙ c.loop-c-test.false) in
-    scan-done _ _ (c.loop-c.invariant.2 ∙ rw e) (c.loop-c.invariant.3 ∙ rw e (omega arith))
+    let e = c.in-None.ensures.steps.0 in
+    λ rs t. scan-done rs _ _ t (c.loop-item.invariant.0 ∙ rw e) (c.loop-item.invariant.1 ∙ rw e (omega arith))

@@ -1,25 +1,10 @@
-use mathlib.Core.Path.{refl}
-use Prim.Native.Nat.{zero-le}
-use Rattle.rules.specs.DayFile.{items}
-use Rattle.file_names.specs.Names.{item_has, names_party}
-use Rattle.file_walk.proofs.WalkLaws.{walk-less}
+use Rattle.file_names.specs.Names.{names_party}
 use Rattle.file_names.proofs.NameLaws.{marks-step, marks-end}
 use Rattle.file_names.proofs.mark_parties.Goals as goal
 
-pub loop-c-init : goal.loop-c-init
-unfolding items
-loop-c-init c = rw c.begin-c.ensures (record { within = zero-le; long = refl; has = λ n b. refl })
-
-pub loop-c-smaller : goal.loop-c-smaller
-loop-c-smaller c = walk-less _ c.loop-c.c c.more.ensures c.loop-c-test.true c.advance-c.ensures
-
-pub loop-c-preserved : goal.loop-c-preserved
-loop-c-preserved c =
-    let l = c.loop-c in
-    marks-step item_has c.args.file.now c.args.parties.now l.parties l.c l.invariant c.more.ensures c.loop-c-test.true c.advance-c.ensures c.party_at.auto.parties c.party_at.ensures
+pub loop-item-preserved : goal.loop-item-preserved
+loop-item-preserved c = marks-step c.loop-item.invariant c.in-Some.ensures.steps c.mark_party.auto.parties c.mark_party.ensures
 
 pub returns : goal.returns
 unfolding names_party
-returns c =
-    let a = c.args in
-    marks-end item_has a.file.now a.parties.now c.loop-c.parties c.loop-c.c c.loop-c.invariant c.more.ensures c.loop-c-test.false
+returns c = marks-end c.loop-item.invariant c.in-None.ensures.steps.0
