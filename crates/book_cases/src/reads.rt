@@ -2,19 +2,20 @@
 use caselist::rows::{Row, low};
 use rules::EntryRead;
 
-fn is_entry(got: EntryRead, r: Row) -> bool {
+fn is_entry(got: EntryRead, row: Row) -> bool {
+    let [_, party, day, entry_type, counterparty, status, amount, ..] = row.figures;
     (got.answer == 0)
-        & (got.party as u64 == r.b)
-        & (got.day as u64 == r.c)
-        & (got.entry_type as u64 == r.d)
-        & (got.counterparty as u64 == r.e)
-        & (got.status as u64 == r.f)
-        & (got.amount == r.g)
+        & (u64::from(got.party) == party)
+        & (u64::from(got.day) == day)
+        & (u64::from(got.entry_type) == entry_type)
+        & (u64::from(got.counterparty) == counterparty)
+        & (u64::from(got.status) == status)
+        & (got.amount == amount)
 }
 
 // The cause, and every other figure zero.
 fn is_refused(got: EntryRead, cause: u64) -> bool {
-    (got.answer as u64 == cause)
+    (u64::from(got.answer) == cause)
         & (got.party == 0)
         & (got.day == 0)
         & (got.entry_type == 0)
@@ -25,7 +26,7 @@ fn is_refused(got: EntryRead, cause: u64) -> bool {
 
 fn counted(book: &[u32], answer: u64, count: u64) -> bool {
     let got = book::count(book);
-    (got.answer as u64 == answer) & (got.count as u64 == count)
+    (u64::from(got.answer) == answer) & (u64::from(got.count) == count)
 }
 
 // Each refuses what is no book.
@@ -34,18 +35,13 @@ pub fn no_book(book: &[u32]) -> bool {
     entry & !book::is_book(book) & counted(book, 1, 0)
 }
 
-pub fn asked(book: &[u32], r: Row) -> bool {
-    if r.call == b'E' {
-        return is_entry(book::entry(book, low(r.a)), r);
+pub fn asked(book: &[u32], row: Row) -> bool {
+    let [first, second, ..] = row.figures;
+    match row.call {
+        b'E' => is_entry(book::entry(book, low(first)), row),
+        b'H' => is_refused(book::entry(book, low(first)), second),
+        b'C' => counted(book, first, second),
+        b'I' => u64::from(book::is_book(book)) == first,
+        _ => false,
     }
-    if r.call == b'H' {
-        return is_refused(book::entry(book, low(r.a)), r.b);
-    }
-    if r.call == b'C' {
-        return counted(book, r.a, r.b);
-    }
-    if r.call == b'I' {
-        return book::is_book(book) as u64 == r.a;
-    }
-    false
 }

@@ -1,4 +1,6 @@
 // The words of a book, and the words that the list says they are.
+use crate::score::Score;
+
 #[derive(Drop)]
 pub struct Pair<'a> {
     pub book: &'a mut [u32],
@@ -19,5 +21,11 @@ impl<'a> Pair<'a> {
         let book = &*self.book;
         let expected = &*self.expected;
         book == expected
+    }
+
+    // After a call its answer is compared, and every word.
+    pub fn compare(&self, line: u64, answered: bool, score: &mut Score) {
+        score.check(line, answered);
+        score.check(line, self.is_same());
     }
 }
