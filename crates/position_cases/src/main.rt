@@ -36,11 +36,11 @@ fn tally(book: &[u32], row: Row) -> TallyAnswer {
 
 // The sum of a type, or B where the type is 0.
 fn sum(got: TallyAnswer, entry_type: u32) -> u64 {
-    let [first @ .., updated] = got.tally.sums;
     match entry_type {
         0 => got.bought,
-        22 => updated,
-        _ => first.get(entry_type as usize - 1).copied().unwrap_or(0),
+        1..=16 => got.tally.sums[entry_type as usize - 1],
+        22 => got.tally.sums[16],
+        _ => 0,
     }
 }
 
