@@ -24,7 +24,10 @@ pub fn of_kind(kind: u32, value: u64) -> u32 {
 // The five words of an entry, by its number.
 pub fn put_entry(words: &mut [u32], number: u32, entry: [u32; 5]) {
     let at = 3 + 5 * (number as usize);
-    for (place, word) in words.iter_mut().skip(at).zip(entry) {
+    let Some(rest) = words.get_mut(at..) else {
+        return;
+    };
+    for (place, word) in rest.iter_mut().zip(entry) {
         *place = word;
     }
 }
