@@ -3,11 +3,11 @@
 
 ghost use Rattle.std.specs.Prelude.{◌≡◌, leb};
 ghost use Rattle.rules.specs.Entry.{key_in, party_ok, day_ok, is_type, is_volume, is_money, is_bilateral, counterparty_ok, amount_limit, fault};
+ghost use Rattle.rules.specs.Refusals.{answer_of};
 ghost use Rattle.entry_checks.specs.Parts.{counterparty_limit};
 
-use rules::Key;
+use rules::{Key, Refusal};
 use rules::bounds::{LAST_DAY, LAST_PARTY, MOST_MONEY, MOST_VOLUME};
-use rules::causes::{BAD_AMOUNT, BAD_COUNTERPARTY, BAD_DAY, BAD_PARTY, BAD_TYPE};
 use rules::layout::{BILATERAL, UPDATED_PROGRAM};
 
 // Checks 3 to 7 of a post, one each (01, 'Entry types').
@@ -69,26 +69,26 @@ pub fn amount_ok(entry_type: u32, amount: u64) -> bool
     }
 }
 
-// The lowest cause of 3 to 7 that holds, or 0.
-pub fn fault_of(key: Key, amount: u64) -> u32
-    ensures { result ≡ fault (key_in key) amount }
+// The lowest cause of 3 to 7 that holds.
+pub fn check(key: Key, amount: u64) -> Result<(), Refusal>
+    ensures { answer_of result ≡ fault (key_in key) amount }
 {
     if !party_ok(key.party) {
-        return BAD_PARTY;
+        return Err(Refusal::BadParty);
     }
     if !day_ok(key.day) {
-        return BAD_DAY;
+        return Err(Refusal::BadDay);
     }
     if !is_type(key.entry_type) {
-        return BAD_TYPE;
+        return Err(Refusal::BadType);
     }
     if !counterparty_ok(key) {
-        return BAD_COUNTERPARTY;
+        return Err(Refusal::BadCounterparty);
     }
     if !amount_ok(key.entry_type, amount) {
-        return BAD_AMOUNT;
+        return Err(Refusal::BadAmount);
     }
-    0
+    Ok(())
 }
 
 // A bilateral sale with a counterparty above 0.

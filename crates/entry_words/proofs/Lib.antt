@@ -1,1 +1,1 @@
-mod EntryWords
+mod WordTests

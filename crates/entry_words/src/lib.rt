@@ -1,9 +1,11 @@
 // Internal: the five words of one entry, read and checked, for the crates above it.
-#![tactic(auto)]
+#![tactic(auto, unfolding(rules::specs::Words::decode))]
 
-ghost use Rattle.std.specs.Prelude.{◌≡◌, [], ◌∷◌};
-ghost use Rattle.rules.specs.Entry.{entry_of, amount_limit};
-ghost use Rattle.rules.specs.Words.{decode, entry_ok};
+ghost use Rattle.std.specs.Prelude.{◌≡◌};
+ghost use Rattle.rules.specs.Entry.{key, entry_of, amount_limit};
+ghost use Rattle.rules.specs.Words.{entry_ok};
+ghost use Rattle.rules.specs.Book.{is_mark_of};
+ghost use Rattle.entry_words.specs.Words.{words_in, entry_in};
 ghost use Rattle.entry_words.specs.Parts.{who_limit, amount_words, amount_words_ok, mark_words_ok};
 
 use rules::bounds::{LAST_DAY, LAST_PARTY, MOST_MONEY, MOST_VOLUME};
@@ -22,22 +24,14 @@ const MOST_MONEY_WORDS: u64 = LOW_WORD as u64
     + MOST_MONEY % LOW_AMOUNT
     + (HIGH_WORD as u64 + MOST_MONEY / LOW_AMOUNT) * WORD_VALUES;
 
-// The entry that five words hold.
-pub fn entry_of(party: u32, day: u32, figures: u32, low: u32, high: u32) -> Entry
-    ensures { result ≡ entry_of (decode (party ∷ day ∷ figures ∷ low ∷ high ∷ [])) }
-{
-    let named = figures % KIND;
-    let amount = (low % KIND) as u64 + (high % KIND) as u64 * LOW_AMOUNT;
-    Entry {
-        key: Key {
-            party: party % KIND,
-            day: day % KIND,
-            entry_type: named % TYPES,
-            counterparty: named / TYPES % COUNTERPARTIES,
-        },
-        status: named / STATUS,
-        amount,
-    }
+// The words of an entry, as they lie in a book.
+#[derive(Clone, Copy, Debug, PartialEq, Eq)]
+pub struct EntryWords {
+    pub party: u32,
+    pub day: u32,
+    pub figures: u32,
+    pub low: u32,
+    pub high: u32,
 }
 
 // The largest type and counterparty as one number, the low 24 bits of a kind 3 word: a counterparty only in type 6.
@@ -62,44 +56,111 @@ fn amount_words_limit(who: u32) -> u64
     }
 }
 
-// The two words of an amount: in order as one number, where their kinds are right.
-fn amount_words_ok(who: u32, low: u32, high: u32) -> bool
-    ensures { result ≡ amount_words_ok who low high }
-{
-    (LOW_WORD <= low)
-        & (low < HIGH_WORD)
-        & (HIGH_WORD <= high)
-        & (low as u64 + high as u64 * WORD_VALUES <= amount_words_limit(who))
-}
-
-// A mark: all of its words but the day's are known.
-fn mark_words_ok(party: u32, day: u32, figures: u32, low: u32, high: u32) -> bool
-    ensures { result ≡ mark_words_ok party day figures low high }
-{
-    (party == PARTY_WORD)
-        & ((DAY_WORD <= day) & (day <= DAY_WORD + LAST_DAY))
-        & (figures == FIGURES_WORD + MARK)
-        & (low == LOW_WORD)
-        & (high == HIGH_WORD)
-}
-
-// The five words of an entry, whole words compared. What depends on the type is a limit that is chosen, so that legal
-// entries but marks take one way whatever their types and statuses: a branch on these is mispredicted.
-pub fn words_ok(party: u32, day: u32, figures: u32, low: u32, high: u32) -> bool
-    ensures { result ≡ entry_ok (party ∷ day ∷ figures ∷ low ∷ high ∷ []) }
-{
-    // party and day in range, no status past cancelled, and none cancelled without a counterparty
-    if !(((PARTY_WORD < party) & (party <= PARTY_WORD + LAST_PARTY))
-        & ((DAY_WORD <= day) & (day <= DAY_WORD + LAST_DAY))
-        & ((FIGURES_WORD <= figures) & (figures < CANCELLED_WORD + STATUS))
-        & !((CANCELLED_WORD < figures) & (figures < CANCELLED_WORD + TYPES)))
+impl EntryWords {
+    pub fn party(self) -> u32
+        ensures { result ≡ (key (entry_in self)).party }
     {
-        return mark_words_ok(party, day, figures, low, high);
+        self.party % KIND
     }
-    let who = figures % STATUS;
-    (1 <= who)
-        & (who <= who_limit(figures % TYPES))
-        & !(who == MARK)
-        & !(who == BILATERAL + party % COUNTERPARTIES * TYPES)
-        & amount_words_ok(who, low, high)
+
+    pub fn day(self) -> u32
+        ensures { result ≡ (key (entry_in self)).day }
+    {
+        self.day % KIND
+    }
+
+    pub fn entry_type(self) -> u32
+        ensures { result ≡ (key (entry_in self)).type }
+    {
+        self.figures % KIND % TYPES
+    }
+
+    pub fn counterparty(self) -> u32
+        ensures { result ≡ (key (entry_in self)).counterparty }
+    {
+        self.figures % KIND / TYPES % COUNTERPARTIES
+    }
+
+    pub fn status(self) -> u32
+        ensures { result ≡ (entry_in self).label.status }
+    {
+        self.figures % KIND / STATUS
+    }
+
+    pub fn amount(self) -> u64
+        ensures { result ≡ (entry_in self).amount }
+    {
+        u64::from(self.low % KIND) + u64::from(self.high % KIND) * LOW_AMOUNT
+    }
+
+    // The entry that the words hold.
+    pub fn entry(self) -> Entry
+        ensures { result ≡ entry_of (entry_in self) }
+    {
+        Entry {
+            key: Key {
+                party: self.party(),
+                day: self.day(),
+                entry_type: self.entry_type(),
+                counterparty: self.counterparty(),
+            },
+            status: self.status(),
+            amount: self.amount(),
+        }
+    }
+
+    // A mark of a day (01, 'Control of a day').
+    pub fn is_mark_of(self, day: u32) -> bool
+        ensures { result ≡ is_mark_of day (entry_in self) }
+    {
+        (self.entry_type() == MARK) & (self.day() == day)
+    }
+
+    // The two words of the amount: in order as one number, where their kinds are right.
+    fn is_amount_ok(self, who: u32) -> bool
+        ensures { result ≡ amount_words_ok who self.low self.high }
+    {
+        (LOW_WORD <= self.low)
+            & (self.low < HIGH_WORD)
+            & (HIGH_WORD <= self.high)
+            & (u64::from(self.low) + u64::from(self.high) * WORD_VALUES <= amount_words_limit(who))
+    }
+
+    // A mark: all of its words but the day's are known.
+    fn is_mark_ok(self) -> bool
+        ensures { result ≡ mark_words_ok self.party self.day self.figures self.low self.high }
+    {
+        (self.party == PARTY_WORD)
+            & ((DAY_WORD <= self.day) & (self.day <= DAY_WORD + LAST_DAY))
+            & (self.figures == FIGURES_WORD + MARK)
+            & (self.low == LOW_WORD)
+            & (self.high == HIGH_WORD)
+    }
+
+    // Whole words compared. What depends on the type is a limit that is chosen, so that legal entries but marks take one way
+    // whatever their types and statuses: a branch on these is mispredicted.
+    pub fn is_ok(self) -> bool
+        ensures { result ≡ entry_ok (words_in self) }
+    {
+        let EntryWords {
+            party,
+            day,
+            figures,
+            ..
+        } = self;
+        // party and day in range, no status past cancelled, and none cancelled without a counterparty
+        if !(((PARTY_WORD < party) & (party <= PARTY_WORD + LAST_PARTY))
+            & ((DAY_WORD <= day) & (day <= DAY_WORD + LAST_DAY))
+            & ((FIGURES_WORD <= figures) & (figures < CANCELLED_WORD + STATUS))
+            & !((CANCELLED_WORD < figures) & (figures < CANCELLED_WORD + TYPES)))
+        {
+            return self.is_mark_ok();
+        }
+        let who = figures % STATUS;
+        (1 <= who)
+            & (who <= who_limit(figures % TYPES))
+            & !(who == MARK)
+            & !(who == BILATERAL + party % COUNTERPARTIES * TYPES)
+            & self.is_amount_ok(who)
+    }
 }

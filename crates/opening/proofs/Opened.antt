@@ -1,9 +1,8 @@
 -- What an opening leaves, and why it is refused, as code tells them. Assumes nothing.
 use mathlib.Core.Path.{◌≡◌, refl, sym, ◌∙◌}
-use mathlib.Core.Bool.{Bool, true, false, cond, ◌&&◌, true≢false}
+use mathlib.Core.Bool.{Bool, true, false, ◌&&◌}
 use mathlib.Core.List.{List, [], ◌∷◌}
 use Prim.Native.Nat.{ℕ}
-use lib.Dec.{eqb, leb}
 use lib.ListN.{length, set}
 use Rattle.numbers.specs.Causes.{unless, first_of}
 use Rattle.numbers.proofs.CauseLaws.{done-zero}
@@ -20,12 +19,12 @@ pub open-leaves : (ws : List ℕ) (R TM : ℕ) → open_cause (length ws) R TM �
 unfolding open_words
 open-leaves ws R TM e = count-last ws (word 6 0) (word 7 R) (word 8 TM) ∙ sym (done-zero _ _ _ e)
 
--- what cannot be opened lacks a word, or has a figure out of its range
-pub open-refuses : (lent R TM : ℕ) → eqb (open_cause lent R TM) 0 ≡ false → cond (leb 3 lent) bad_figure bad_length ≡ open_cause lent R TM
-unfolding open_cause
-open-refuses lent R TM = go (leb 3 lent) (leb R 1000 && leb TM 200000000)
-  where
-    go : (a b : Bool) → eqb (first_of (unless a bad_length ∷ unless b bad_figure ∷ [])) 0 ≡ false → cond a bad_figure bad_length ≡ first_of (unless a bad_length ∷ unless b bad_figure ∷ [])
-    go false b e = refl
-    go true false e = refl
-    go true true e = absurd (true≢false e)
+-- one test of all: it holds where there is no cause, and with the words there a figure is out of its range where it fails
+pub fits : (a b : Bool) → a && b ≡ true → 0 ≡ first_of (unless a bad_length ∷ unless b bad_figure ∷ [])
+fits true true e = refl
+fits true false e = cc
+fits false b e = cc
+
+pub figure-off : (b : Bool) → true && b ≡ false → bad_figure ≡ first_of (unless b bad_figure ∷ [])
+figure-off false e = refl
+figure-off true e = cc

@@ -1,4 +1,5 @@
 -- What follows from the definitions of specs/: laws, the worked figures and the order of two books.
+pub mod RefusalLaws
 pub mod WordLaws
 pub mod BookLaws
 pub mod LiftLaws

@@ -17,3 +17,4 @@ pub mod Calls
 pub mod Ledger
 pub mod Compared
 pub mod Order
+pub mod Answers

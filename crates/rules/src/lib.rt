@@ -1,11 +1,15 @@
-// Document 01 as definitions (specs/) and the data types that calls take and answer. No code.
+// Document 01 as definitions (specs/) and the data types that calls take and answer.
 #![tactic(auto)]
 
 use case_figures::Month;
 
+mod answers;
 pub mod bounds;
 pub mod causes;
 pub mod layout;
+mod refusal;
+
+pub use refusal::Refusal;
 
 // A post's answer: 0 and the entry's number, counted from 0, or the cause.
 #[repr(C)]
@@ -24,7 +28,7 @@ pub struct Counted {
 }
 
 // What an entry is for: the four figures that a post names beside its amount.
-#[derive(Clone, Copy)]
+#[derive(Clone, Copy, Debug, PartialEq, Eq)]
 pub struct Key {
     pub party: u32,
     pub day: u32,
@@ -33,7 +37,7 @@ pub struct Key {
 }
 
 // An entry of a book.
-#[derive(Clone, Copy)]
+#[derive(Clone, Copy, Debug, PartialEq, Eq)]
 pub struct Entry {
     pub key: Key,
     pub status: u32,
@@ -73,6 +77,12 @@ pub struct Tally {
 }
 
 // A tally, and B: what others sold to the party by bilateral sale.
+#[derive(Clone, Copy)]
+pub struct PartyDay {
+    pub tally: Tally,
+    pub bought: u64,
+}
+
 #[repr(C)]
 #[derive(Clone, Copy)]
 pub struct TallyAnswer {
@@ -123,6 +133,13 @@ pub struct MonthReport {
 }
 
 // The parties detected in each pass of a control, and the entries it cancelled.
+#[derive(Clone, Copy, Debug, PartialEq, Eq)]
+pub struct Counts {
+    pub first: u32,
+    pub second: u32,
+    pub cancelled: u32,
+}
+
 #[repr(C)]
 #[derive(Clone, Copy)]
 pub struct Controlled {
@@ -141,6 +158,16 @@ pub struct FileRead {
 }
 
 // Each item of collateral and the total, in kurus.
+#[derive(Clone, Copy, Debug, PartialEq, Eq)]
+pub struct Items {
+    pub margin: u64,
+    pub trading: u64,
+    pub imbalance: u64,
+    pub risk: u64,
+    pub yek: u64,
+    pub total: u64,
+}
+
 #[repr(C)]
 #[derive(Clone, Copy)]
 pub struct Collateral {

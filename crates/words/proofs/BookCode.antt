@@ -13,7 +13,10 @@ use Rattle.numbers.specs.Tests.{any}
 use Rattle.numbers.proofs.TestLaws.{and_split}
 use Rattle.rules.specs.Entry.{Record, key}
 use Rattle.rules.specs.Words.{entry_ok, entries_ok, decode, read_entries, is_book, kind_of, kind_at, value_at, type_bits, count_of, coefficient_of, tolerance_of, room_in}
-use Rattle.rules.specs.Book.{is_closed, is_mark_of}
+use Rattle.rules.specs.Book.{place_of, entry_at, is_closed, is_mark_of}
+use Rattle.entry_words.specs.declared.EntryWords.{EntryWords}
+use Rattle.entry_words.specs.Words.{words_in}
+use Rattle.words.specs.Parts.{words_at}
 use Rattle.rules.proofs.WordLaws.{entries_ok-step, read_step, room-words, book-facts, entry-facts, legal-bounds, bits_back, word_of}
 
 -- the five words at a place
@@ -39,9 +42,23 @@ entries_ok-from n ws i h =
 pub read-from : (n : ℕ) (ws : List ℕ) (i : ℕ) → i < n → read_entries (n - i) (drop (3 + 5 * i) ws) ≡ decode (drop (3 + 5 * i) ws) ∷ read_entries (n - (i + 1)) (drop (3 + 5 * (i + 1)) ws)
 read-from n ws i h = rw (← drop-drop (5 * i) 3 ws, ← drop-drop (5 * (i + 1)) 3 ws) (read_step n (drop 3 ws) i h)
 
+-- the test of entry i by the words read there
+pub ok-told : {r : Bool} {e : EntryWords} {at : ℕ} (ws : List ℕ) (i : ℕ) → r ≡ entry_ok (words_in e) → e ≡ words_at ws at → at ≡ place_of i → entry_ok (drop (3 + 5 * i) ws) ≡ r
+ok-told ws i h e p =
+    entry_ok-at ws (3 + 5 * i) ∙ sym (h ∙ ap (λ x. entry_ok (words_in x)) e ∙ ap (λ k. entry_ok (words_in (words_at ws k))) p)
+
 pub closed-from : (d n : ℕ) (ws : List ℕ) (i : ℕ) → i < n → is_closed d (read_entries (n - i) (drop (3 + 5 * i) ws)) ≡ is_mark_of d (decode (drop (3 + 5 * i) ws)) || is_closed d (read_entries (n - (i + 1)) (drop (3 + 5 * (i + 1)) ws))
 unfolding is_closed any
 closed-from d n ws i h = rw (read-from n ws i h)
+
+-- the same by the entries in their order, and a mark told by what was read of entry i
+pub entry-from : (n : ℕ) (ws : List ℕ) (i : ℕ) → i < n → read_entries (n - i) (drop (3 + 5 * i) ws) ≡ entry_at ws i ∷ read_entries (n - (i + 1)) (drop (3 + 5 * (i + 1)) ws)
+unfolding entry_at
+entry-from n ws i h = read-from n ws i h
+
+pub mark-told : {r : Bool} {e : Record} (d : ℕ) (ws : List ℕ) (i : ℕ) → r ≡ is_mark_of d e → e ≡ entry_at ws i → is_mark_of d (decode (drop (3 + 5 * i) ws)) ≡ r
+unfolding entry_at
+mark-told d ws i h e = sym (h ∙ ap (is_mark_of d) e)
 
 -- a book's words and entries lie within the slice
 pub book-long : (ws : List ℕ) → is_book ws ≡ true → 3 ≤ length ws

@@ -1,46 +1,70 @@
-// Internal: the words of a book, for the crates above it. A caller meets each `requires`.
+// Internal: a checked book over its words, for the crates above it.
 #![tactic(auto)]
 
-ghost use Rattle.std.specs.Prelude.{◌≡◌, true, ◌+◌, ◌*◌, ◌<◌, ◌≤◌, length, drop};
-ghost use Rattle.rules.specs.Entry.{key_in, entry_of, key};
-ghost use Rattle.rules.specs.Words.{decode, entry_ok, entries_ok, room_in, count_of, coefficient_of, tolerance_of, is_book, entries};
-ghost use Rattle.rules.specs.Book.{is_mark_of, is_closed, shut_to, place_of};
-ghost use Rattle.words.specs.Parts.{kept};
+ghost use Rattle.std.specs.Prelude.{◌≡◌, true, List, ℕ, ◌+◌, ◌*◌, ◌<◌, ◌≤◌, leb, length, drop, false, IfOk, IfErr, OnOk, OnErr};
+ghost use Rattle.rules.specs.Refusals.{answer_of};
+ghost use Rattle.rules.specs.Entry.{key_in, record_in, entry_of, legal};
+ghost use Rattle.rules.specs.Words.{entry_ok, entries_ok, room_in, count_of, coefficient_of, tolerance_of, is_book, entries};
+ghost use Rattle.rules.specs.Book.{is_closed, shut_to, place_of, entry_at};
+ghost use Rattle.entry_words.specs.Words.{entry_in};
+ghost use Rattle.words.specs.Parts.{kept, words_at};
 
-use rules::bounds::MOST_ENTRIES;
-use rules::causes::{DAY_CLOSED, NO_ENTRY};
-use rules::layout::{ENTRY_WORDS, HEAD_WORDS, KIND, LOW_AMOUNT, MARK, STANDING, STATUS, TYPES};
-use rules::{Entry, Key};
+use entry_words::EntryWords;
+use rules::bounds::{MOST_COEFFICIENT, MOST_ENTRIES, MOST_TOLERANCE};
+use rules::layout::{ENTRY_WORDS, HEAD_WORDS, KIND, MARK, STANDING};
+use rules::{Entry, Key, Refusal};
+use std::marker::Model;
 
-pub fn entry_ok(book: &[u32], at: usize) -> bool
-    requires { at + 5 ≤ length book.now }
-    ensures { result ≡ entry_ok (drop at book.now) }
+// A book that was checked: in contracts it stands for its words.
+#[derive(Drop)]
+pub struct Book<'a> {
+    words: &'a [u32],
+}
+
+impl<'a> Model for Book<'a> {
+    ghost Value = { List ℕ };
+
+    ghost view = { λ book. book.words.now };
+
+    ghost invariant = { λ book. is_book book.words.now ≡ true };
+}
+
+// The place of an entry.
+pub fn place_of(number: u32) -> usize
+    ensures { result ≡ place_of number }
 {
-    let party = book[at];
-    let day = book[at + 1];
-    let figures = book[at + 2];
-    let low = book[at + 3];
-    let high = book[at + 4];
-    entry_words::words_ok(party, day, figures, low, high)
+    HEAD_WORDS + ENTRY_WORDS * (number as usize)
+}
+
+// The words of the entry at a place.
+fn words_at(words: &[u32], at: usize) -> EntryWords
+    requires { at + 5 ≤ length words.now }
+    ensures { result ≡ words_at words.now at }
+{
+    EntryWords {
+        party: words[at],
+        day: words[at + 1],
+        figures: words[at + 2],
+        low: words[at + 3],
+        high: words[at + 4],
+    }
 }
 
 // Each entry is checked once, where it lies.
-pub fn entries_ok(book: &[u32], count: usize) -> bool
-    requires { 3 + 5 * count ≤ length book.now }
-    ensures { result ≡ entries_ok count (drop 3 book.now) }
+fn entries_ok(words: &[u32], count: u32) -> bool
+    requires { 3 + 5 * count ≤ length words.now }
+    ensures { result ≡ entries_ok count (drop 3 words.now) }
 {
-    let mut i = 0;
-    while i < count {
-        if !entry_ok(book, HEAD_WORDS + ENTRY_WORDS * i) {
+    for i in 0..count {
+        if !words_at(words, place_of(i)).is_ok() {
             return false;
         }
-        i += 1;
     }
     true
 }
 
 // How many entries a slice of this length has room for.
-pub fn room(lent: usize) -> usize
+fn room(lent: usize) -> usize
     ensures { result ≡ room_in lent }
 {
     if lent < HEAD_WORDS {
@@ -54,135 +78,138 @@ pub fn room(lent: usize) -> usize
     }
 }
 
-// The three words before the entries.
-pub fn count_of(book: &[u32]) -> u32
-    requires { 3 ≤ length book.now }
-    ensures { result ≡ count_of book.now }
+// The number of entries that a book's first word gives.
+pub fn count_of(words: &[u32]) -> u32
+    requires { 3 ≤ length words.now }
+    ensures { result ≡ count_of words.now }
 {
-    book[0] % KIND
+    words[0] % KIND
 }
 
-pub fn coefficient_of(book: &[u32]) -> u32
-    requires { 3 ≤ length book.now }
-    ensures { result ≡ coefficient_of book.now }
+// Whether the words are a book.
+fn is_book(words: &[u32]) -> bool
+    ensures { result ≡ is_book words.now }
 {
-    book[1] % KIND
-}
-
-pub fn tolerance_of(book: &[u32]) -> u32
-    requires { 3 ≤ length book.now }
-    ensures { result ≡ tolerance_of book.now }
-{
-    book[2] % KIND
-}
-
-// The place of an entry.
-pub fn place_of(number: u32) -> usize
-    ensures { result ≡ place_of number }
-{
-    HEAD_WORDS + ENTRY_WORDS * (number as usize)
-}
-
-// The figures of the entry at a place.
-pub fn party_at(book: &[u32], at: usize) -> u32
-    requires { at + 5 ≤ length book.now }
-    ensures { result ≡ (key (decode (drop at book.now))).party }
-{
-    book[at] % KIND
-}
-
-pub fn day_at(book: &[u32], at: usize) -> u32
-    requires { at + 5 ≤ length book.now }
-    ensures { result ≡ (key (decode (drop at book.now))).day }
-{
-    book[at + 1] % KIND
-}
-
-pub fn type_at(book: &[u32], at: usize) -> u32
-    requires { at + 5 ≤ length book.now }
-    ensures { result ≡ (key (decode (drop at book.now))).type }
-{
-    book[at + 2] % KIND % TYPES
-}
-
-pub fn status_at(book: &[u32], at: usize) -> u32
-    requires { at + 5 ≤ length book.now }
-    ensures { result ≡ (decode (drop at book.now)).label.status }
-{
-    book[at + 2] % KIND / STATUS
-}
-
-pub fn amount_at(book: &[u32], at: usize) -> u64
-    requires { at + 5 ≤ length book.now }
-    ensures { result ≡ (decode (drop at book.now)).amount }
-{
-    (book[at + 3] % KIND) as u64 + (book[at + 4] % KIND) as u64 * LOW_AMOUNT
-}
-
-// A mark of a day, and a day with a mark (01, 'Control of a day').
-pub fn is_mark_of(book: &[u32], at: usize, day: u32) -> bool
-    requires { at + 5 ≤ length book.now }
-    ensures { result ≡ is_mark_of day (decode (drop at book.now)) }
-{
-    (type_at(book, at) == MARK) & (day_at(book, at) == day)
-}
-
-pub fn is_closed(book: &[u32], day: u32) -> bool
-    requires { is_book book.now ≡ true }
-    ensures { result ≡ is_closed day (entries book.now) }
-{
-    let count = (book[0] % KIND) as usize;
-    let mut i = 0;
-    while i < count {
-        if is_mark_of(book, HEAD_WORDS + ENTRY_WORDS * i, day) {
-            return true;
-        }
-        i += 1;
-    }
-    false
-}
-
-// Whether the day is closed to an entry. It is looked up for a bilateral sale only.
-pub fn shut_to(book: &[u32], key: Key) -> bool
-    requires { is_book book.now ≡ true }
-    ensures { result ≡ shut_to (key_in key) (entries book.now) }
-{
-    if !entry_checks::is_bilateral(key) {
+    if words.len() < HEAD_WORDS {
         return false;
     }
-    is_closed(book, key.day)
+    let count = count_of(words);
+    let head = (words[0] / KIND == 6)
+        & (words[1] / KIND == 7)
+        & (words[2] / KIND == 8)
+        & (words[1] % KIND <= MOST_COEFFICIENT)
+        & (words[2] % KIND <= MOST_TOLERANCE)
+        & (count as usize <= room(words.len()));
+    if !head {
+        return false;
+    }
+    entries_ok(words, count)
 }
 
-// The entry at a place.
-pub fn read_at(book: &[u32], at: usize) -> Entry
-    requires { at + 5 ≤ length book.now }
-    ensures { result ≡ entry_of (decode (drop at book.now)) }
-{
-    entry_words::entry_of(
-        book[at],
-        book[at + 1],
-        book[at + 2],
-        book[at + 3],
-        book[at + 4],
-    )
-}
+impl<'a> Book<'a> {
+    // The book that the words are, checked once a call.
+    pub fn of(words: &'a [u32]) -> Result<Book<'a>, Refusal>
+        ensures ok { IfOk result (λ book. book ≡ words.now) }
+        ensures book { OnOk result (is_book words.now ≡ true) }
+        ensures err { IfErr result (λ refusal. refusal ≡ Refusal.NotABook) }
+        ensures no_book { OnErr result (is_book words.now ≡ false) }
+    {
+        if !is_book(words) {
+            return Err(Refusal::NotABook);
+        }
+        Ok(Book { words })
+    }
 
-// Why the entry at a place cannot be withdrawn, or 0.
-pub fn kept_at(book: &[u32], at: usize) -> u32
-    requires book_value { is_book book.now ≡ true }
-    requires at_in_bounds { at + 5 ≤ length book.now }
-    ensures { result ≡ kept (decode (drop at book.now)) (entries book.now) }
-{
-    let e = read_at(book, at);
-    if e.status != STANDING {
-        return NO_ENTRY;
+    // The book that words are which a call has checked before.
+    pub fn known(words: &'a [u32]) -> Book<'a>
+        requires { is_book words.now ≡ true }
+        ensures { result ≡ words.now }
+    {
+        Book { words }
     }
-    if e.key.entry_type == MARK {
-        return NO_ENTRY;
+
+    // The number of entries, of every status. A caller learns here that the words are a book.
+    pub fn count(&self) -> u32
+        ensures count { result ≡ count_of self.now }
+        ensures book { is_book self.now ≡ true }
+    {
+        count_of(self.words)
     }
-    let key = e.key;
-    if shut_to(book, key) {
-        return DAY_CLOSED;
+
+    pub fn coefficient(&self) -> u32
+        ensures { result ≡ coefficient_of self.now }
+    {
+        self.words[1] % KIND
     }
-    0
+
+    pub fn tolerance(&self) -> u32
+        ensures { result ≡ tolerance_of self.now }
+    {
+        self.words[2] % KIND
+    }
+
+    // Whether the slice has room for so many entries more.
+    pub fn has_room(&self, places: u32) -> bool
+        ensures { result ≡ leb (count_of self.now + places) (room_in (length self.now)) }
+    {
+        self.count() as usize + places as usize <= room(self.words.len())
+    }
+
+    // The words of an entry by its number.
+    pub fn entry_words(&self, number: u32) -> EntryWords
+        requires { number < count_of self.now }
+        ensures words { result ≡ words_at self.now (place_of number) }
+        ensures entry { entry_in result ≡ entry_at self.now number }
+        ensures legal { legal (entry_in result) ≡ true }
+    {
+        words_at(self.words, place_of(number))
+    }
+
+    pub fn entry(&self, number: u32) -> Entry
+        requires { number < count_of self.now }
+        ensures entry { result ≡ entry_of (entry_at self.now number) }
+        ensures legal { legal (record_in result) ≡ true }
+    {
+        self.entry_words(number).entry()
+    }
+
+    // A day with a mark (01, 'Control of a day').
+    pub fn is_closed(&self, day: u32) -> bool
+        ensures { result ≡ is_closed day (entries self.now) }
+    {
+        for i in 0..self.count() {
+            if self.entry_words(i).is_mark_of(day) {
+                return true;
+            }
+        }
+        false
+    }
+
+    // Whether the day is closed to an entry. It is looked up for a bilateral sale only.
+    pub fn shut_to(&self, key: Key) -> bool
+        ensures { result ≡ shut_to (key_in key) (entries self.now) }
+    {
+        if !entry_checks::is_bilateral(key) {
+            return false;
+        }
+        self.is_closed(key.day)
+    }
+
+    // Why the entry of a number cannot be withdrawn.
+    pub fn kept(&self, number: u32) -> Result<(), Refusal>
+        requires { number < count_of self.now }
+        ensures { answer_of result ≡ kept (entry_at self.now number) (entries self.now) }
+    {
+        let e = self.entry(number);
+        if e.status != STANDING {
+            return Err(Refusal::NoEntry);
+        }
+        if e.key.entry_type == MARK {
+            return Err(Refusal::NoEntry);
+        }
+        if self.shut_to(e.key) {
+            return Err(Refusal::DayClosed);
+        }
+        Ok(())
+    }
 }

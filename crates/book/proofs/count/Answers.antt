@@ -1,17 +1,14 @@
 -- `book::count` meets its contract. Assumes nothing.
+use Rattle.std.proofs.lemmas.Result.{err_from_is_err_and}
 use Rattle.rules.specs.Book.{count_answer, count_cause}
-use Rattle.entry_checks.proofs.Ladder.{passed, failed}
-use Rattle.words.proofs.BookCode.{book-long}
 use Rattle.book.proofs.count.Goals as goal
 
-pub returns-then-not-is_book : goal.returns-then-not-is_book
+pub returns-in_err-of : goal.returns-in_err-of
 unfolding count_answer count_cause
-returns-then-not-is_book c = rw (failed c.is_book.ensures c.if-not-is_book.true)
-
-pub count_of-requires : goal.count_of-requires
-count_of-requires c = book-long _ (passed c.is_book.ensures c.if-not-is_book.false)
+returns-in_err-of c =
+    let p = err_from_is_err_and c.from_residual.result c.from_residual.ensures.1 in
+    rw (p.1, p.2, c.in_err-of.ensures.err, c.in_err-of.ensures.no_book)
 
 pub returns : goal.returns
 unfolding count_answer count_cause
-returns c =
-    rw (passed c.is_book.ensures c.if-not-is_book.false, c.count_of.ensures)
+returns c = rw (c.in_ok-of.ensures.book, c.count.ensures.count, c.in_ok-of.ensures.ok)

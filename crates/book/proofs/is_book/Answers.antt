@@ -1,13 +1,10 @@
 -- `book::is_book` meets its contract. Assumes nothing.
-use native.Mathlib.Omega.{arith}
-use Rattle.words.proofs.BookCode.{too_short, head-fails, head-holds}
+use Rattle.std.proofs.Common.{◌≡◌, Bool, true, false, Result, Ok, Err, OnOk, OnErr, is_ok, sym, ◌∙◌}
 use Rattle.book.proofs.is_book.Goals as goal
 
-pub returns-then-book-lt3 : goal.returns-then-book-lt3
-returns-then-book-lt3 c = search too_short
-
-pub returns-then-not-head : goal.returns-then-not-head
-returns-then-not-head c = search (head-fails, arith)
+by_result : {T E : Type 0} (r : Result T E) {b : Bool} → OnOk r (b ≡ true) → OnErr r (b ≡ false) → is_ok r ≡ b
+by_result (Ok x) h n = sym h
+by_result (Err e) h n = sym n
 
 pub returns : goal.returns
-returns c = search (head-holds, arith)
+returns c = c.is_ok.ensures.value ∙ by_result c.of.result c.of.ensures.book c.of.ensures.no_book

@@ -1,34 +1,21 @@
--- `opening::open` meets its contract. Assumes nothing.
-use mathlib.Core.Path.{◌≡◌, sym, ◌∙◌}
+-- `open` meets its contract. Assumes nothing.
+use mathlib.Core.Path.{sym, ◌∙◌}
 use native.Mathlib.Omega.{arith}
 use lib.ListN.{length, length-set}
-use borrow.Author.Tests.{eqb-true, eqb-false}
-use Rattle.rules.specs.Book.{open_cause}
 use Rattle.rules.proofs.BookLaws.{OpenLimits, open-limits, open-refused}
-use Rattle.entry_checks.proofs.Ladder.{passed, failed}
-use Rattle.opening.proofs.Opened.{open-refuses, open-leaves}
+use Rattle.rules.proofs.RefusalLaws.{number-not_zero}
+use Rattle.opening.proofs.Opened.{open-leaves}
 use Rattle.opening.proofs.open.Goals as goal
-use Rattle.opening.proofs.open.Goals.{Else-not-can_open}
+use Rattle.opening.proofs.open.Goals.{In_ok-check}
 
-clear : (e : Else-not-can_open) →
-    let a = e.args in
-    open_cause (length a.book.now) a.coefficient a.tolerance ≡ 0
-clear e = eqb-true _ _ (passed e.can_open.ensures e.if-not-can_open.false)
+pub returns-in_err-check-clause-words : goal.returns-in_err-check-clause-words
+returns-in_err-check-clause-words c =
+    sym (open-refused _ _ _ (λ z. number-not_zero c.in_err-check.field-0.0 (c.in_err-check.ensures ∙ z)))
 
-within : (e : Else-not-can_open) →
-    let a = e.args in
+within : (c : In_ok-check) →
+    let a = c.args in
     OpenLimits (length a.book.now) a.coefficient a.tolerance
-within e = open-limits _ _ _ (clear e)
-
-pub returns-then-not-can_open-clause-answer : goal.returns-then-not-can_open-clause-answer
-returns-then-not-can_open-clause-answer c =
-    let h = failed c.can_open.ensures c.if-not-can_open.true in
-    c.open_refusal.ensures ∙ open-refuses _ _ _ h
-
-pub returns-then-not-can_open-clause-words : goal.returns-then-not-can_open-clause-words
-returns-then-not-can_open-clause-words c =
-    let h = failed c.can_open.ensures c.if-not-can_open.true in
-    sym (open-refused _ _ _ (eqb-false _ _ h))
+within c = open-limits _ _ _ (sym c.in_ok-check.ensures)
 
 pub overflow_add-book : goal.overflow_add-book
 overflow_add-book c = let l = within c in omega arith
@@ -46,4 +33,4 @@ pub bounds-book-0 : goal.bounds-book-0
 bounds-book-0 c = let l = within c in simp length-set (omega arith)
 
 pub returns-clause-words : goal.returns-clause-words
-returns-clause-words c = open-leaves _ _ _ (clear c)
+returns-clause-words c = open-leaves _ _ _ (sym c.in_ok-check.ensures)
