@@ -5,49 +5,43 @@
 mod reads;
 mod writes;
 
+use caselist::answers::{cause, told};
 use caselist::book_words::{put, word};
 use caselist::pair::Pair;
 use caselist::rows::{Row, low};
 use caselist::score::Score;
-use rules::Key;
+use rules::{Key, Refusal};
 
 fn posted(lent: &mut Pair, row: Row) -> bool {
     writes::append(lent.expected, row);
-    let got = caselist::steps::post(lent.book, row);
-    (got.answer == 0) & (u64::from(got.number) == row.figures[5])
+    told(caselist::steps::post(lent.book, row)) == (0, row.figures[5])
 }
 
 fn post_refused(book: &mut [u32], row: Row) -> bool {
-    let got = caselist::steps::post(book, row);
-    (u64::from(got.answer) == row.figures[5]) & (got.number == 0)
+    told(caselist::steps::post(book, row)) == (row.figures[5], 0)
 }
 
 fn withdrawn(lent: &mut Pair, row: Row) -> bool {
     let [number, figures, ..] = row.figures;
     let _ = put(lent.expected, 5 + 5 * (low(number) as usize), low(figures));
-    book::withdraw(lent.book, low(number)) == 0
+    book::withdraw(lent.book, low(number)).is_ok()
 }
 
 fn withdrawal_refused(book: &mut [u32], row: Row) -> bool {
-    let [number, cause, ..] = row.figures;
-    u64::from(book::withdraw(book, low(number))) == cause
+    let [number, refusal, ..] = row.figures;
+    cause(book::withdraw(book, low(number))) == refusal
 }
 
 fn opened(lent: &mut Pair, row: Row) -> bool {
     let [_, _, count, coefficient, tolerance, ..] = row.figures;
     writes::head(lent.expected, [count, coefficient, tolerance]);
-    caselist::steps::open(lent.book, row)
-}
-
-fn open_refused(book: &mut [u32], row: Row) -> bool {
-    let [coefficient, tolerance, cause, ..] = row.figures;
-    u64::from(opening::open(book, low(coefficient), low(tolerance))) == cause
+    caselist::steps::open(lent.book, row).is_ok()
 }
 
 fn opened_default(lent: &mut Pair, row: Row) -> bool {
     let [count, coefficient, tolerance, ..] = row.figures;
     writes::head(lent.expected, [count, coefficient, tolerance]);
-    opening::open_default(lent.book) == 0
+    opening::open_default(lent.book).is_ok()
 }
 
 // The calls that change nothing refuse it, and so do a post and a withdrawal.
@@ -59,8 +53,9 @@ fn no_book(book: &mut [u32]) -> bool {
         counterparty: 0,
     };
     let read = reads::no_book(book);
-    let got = book::post(book, key, 5);
-    read & (got.answer == 1) & (got.number == 0) & (book::withdraw(book, 0) == 1)
+    let posted = book::post(book, key, 5);
+    let withdrawn = book::withdraw(book, 0);
+    read & (posted == Err(Refusal::NotABook)) & (withdrawn == Err(Refusal::NotABook))
 }
 
 // With one word changed in both, the slice is a book or not, and no word of it changes. Then the word is put back.
@@ -87,9 +82,9 @@ fn call(lent: &mut Pair, row: Row) -> bool {
         b'W' => withdrawn(lent, row),
         b'V' => withdrawal_refused(lent.book, row),
         b'O' => opened(lent, row),
-        b'N' => open_refused(lent.book, row),
+        b'N' => cause(caselist::steps::open(lent.book, row)) == row.figures[2],
         b'D' => opened_default(lent, row),
-        b'U' => u64::from(opening::open_default(lent.book)) == row.figures[0],
+        b'U' => cause(opening::open_default(lent.book)) == row.figures[0],
         b'K' => changed(lent, row, true),
         b'X' => changed(lent, row, false),
         _ => reads::asked(lent.book, row),

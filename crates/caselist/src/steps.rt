@@ -1,10 +1,10 @@
 // The steps that make a book: each must be done.
 use crate::book_words::{named, of_kind, put, put_entry, standing};
 use crate::rows::{Row, low};
-use rules::{Key, Posted};
+use rules::{Key, Refusal};
 
 // Party, day, type, counterparty and amount are the first five figures.
-pub fn post(book: &mut [u32], row: Row) -> Posted {
+pub fn post(book: &mut [u32], row: Row) -> Result<u32, Refusal> {
     let [party, day, entry_type, counterparty, amount, ..] = row.figures;
     let key = Key {
         party: low(party),
@@ -15,13 +15,9 @@ pub fn post(book: &mut [u32], row: Row) -> Posted {
     book::post(book, key, amount)
 }
 
-pub fn open(book: &mut [u32], row: Row) -> bool {
+pub fn open(book: &mut [u32], row: Row) -> Result<(), Refusal> {
     let [coefficient, tolerance, ..] = row.figures;
-    opening::open(book, low(coefficient), low(tolerance)) == 0
-}
-
-pub fn withdraw(book: &mut [u32], number: u64) -> bool {
-    book::withdraw(book, low(number)) == 0
+    opening::open(book, low(coefficient), low(tolerance))
 }
 
 // The test writes one entry n times, and their count.
@@ -39,9 +35,9 @@ fn fill(book: &mut [u32], row: Row) -> bool {
 pub fn make(book: &mut [u32], row: Row) -> bool {
     let [first, second, ..] = row.figures;
     match row.call {
-        b'O' => open(book, row),
-        b'P' => post(book, row).answer == 0,
-        b'W' => withdraw(book, first),
+        b'O' => open(book, row).is_ok(),
+        b'P' => post(book, row).is_ok(),
+        b'W' => book::withdraw(book, low(first)).is_ok(),
         b'M' => fill(book, row),
         b'K' => put(book, low(first) as usize, low(second)),
         _ => false,
