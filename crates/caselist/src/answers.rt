@@ -1,5 +1,6 @@
 // The answer of a call as a list has it: a number, 0 where the call is done or else its cause's, and a figure, 0 beside a cause.
 use rules::Refusal;
+use rules::answers::answer_of;
 
 pub fn told<T: Into<u64>>(answer: Result<T, Refusal>) -> (u64, u64) {
     match answer {
@@ -10,7 +11,7 @@ pub fn told<T: Into<u64>>(answer: Result<T, Refusal>) -> (u64, u64) {
 
 // Of a call that is done without a figure.
 pub fn cause(answer: Result<(), Refusal>) -> u64 {
-    answer.map_or_else(number, |()| 0)
+    u64::from(answer_of(answer))
 }
 
 // Whether a call is refused by this cause.

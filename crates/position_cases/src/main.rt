@@ -1,41 +1,43 @@
 // Both balances and the tally against the list on standard input, whose figures are worked out by hand from document 01.
 #![tactic(auto)]
 
+use caselist::answers::{is_refused, told};
 use caselist::rows::{Row, low};
 use caselist::score::Score;
-use rules::{BalanceAnswer, TallyAnswer};
+use rules::{PartyDay, Refusal};
 
-fn day_ahead(book: &[u32], row: Row) -> BalanceAnswer {
+fn day_ahead(book: &[u32], row: Row) -> Result<i64, Refusal> {
     let [party, day, ..] = row.figures;
     position::day_ahead(book, low(party), low(day))
 }
 
-fn delivery(book: &[u32], row: Row) -> BalanceAnswer {
+fn delivery(book: &[u32], row: Row) -> Result<i64, Refusal> {
     let [party, day, ..] = row.figures;
     position::delivery(book, low(party), low(day))
 }
 
-// The answer, the balance by sign and size, and whether it is detected.
-fn is_answer(got: BalanceAnswer, row: Row) -> bool {
+// The balance by sign and size, and whether it is detected.
+fn is_balance(answer: Result<i64, Refusal>, row: Row) -> bool {
     let [_, _, minus, size, detected, ..] = row.figures;
-    (got.answer == 0)
-        & ((got.balance < 0) == (minus == 1))
-        & (numbers::magnitude(got.balance) == size)
-        & (position::detected(got.balance) == (detected == 1))
+    answer.is_ok_and(|balance| {
+        ((balance < 0) == (minus == 1))
+            & (balance.unsigned_abs() == size)
+            & (position::detected(balance) == (detected == 1))
+    })
 }
 
 // The cause, and no balance.
-fn is_refused(got: BalanceAnswer, row: Row) -> bool {
-    (u64::from(got.answer) == row.figures[2]) & (got.balance == 0)
+fn no_balance(answer: Result<i64, Refusal>, row: Row) -> bool {
+    told(answer.map(|balance| balance.unsigned_abs())) == (row.figures[2], 0)
 }
 
-fn tally(book: &[u32], row: Row) -> TallyAnswer {
+fn tally(book: &[u32], row: Row) -> Result<PartyDay, Refusal> {
     let [party, day, ..] = row.figures;
     position::tally(book, low(party), low(day))
 }
 
 // The sum of a type, or B where the type is 0.
-fn sum(got: TallyAnswer, entry_type: u32) -> u64 {
+fn sum(got: PartyDay, entry_type: u32) -> u64 {
     match entry_type {
         0 => got.bought,
         1..=16 => got.tally.sums[entry_type as usize - 1],
@@ -44,32 +46,25 @@ fn sum(got: TallyAnswer, entry_type: u32) -> u64 {
     }
 }
 
-fn has_sum(got: TallyAnswer, row: Row) -> bool {
+fn has_sum(got: PartyDay, row: Row) -> bool {
     let [party, _, entry_type, size, ..] = row.figures;
     (got.answer == 0) & (u64::from(got.tally.party) == party) & (sum(got, low(entry_type)) == size)
 }
 
-// Each sum and B are what they were: none.
-fn is_empty(got: TallyAnswer) -> bool {
-    (got.bought == 0) & got.tally.sums.iter().all(|sum| *sum == 0)
-}
-
-fn has_none(got: TallyAnswer, row: Row) -> bool {
-    (got.answer == 0) & (u64::from(got.tally.party) == row.figures[0]) & is_empty(got)
-}
-
-// The cause of a refusal; every other figure is zero.
-fn tally_refused(got: TallyAnswer, row: Row) -> bool {
-    (u64::from(got.answer) == row.figures[2]) & (got.tally.party == 0) & is_empty(got)
+// Neither a sum nor B.
+fn has_none(got: PartyDay, row: Row) -> bool {
+    (u64::from(got.tally.party) == row.figures[0])
+        & (got.bought == 0)
+        & got.tally.sums.iter().all(|sum| *sum == 0)
 }
 
 // What a row asks of one call, or a step that makes the book.
 fn asked(book: &mut [u32], row: Row) -> bool {
     match row.call {
-        b'D' => is_answer(day_ahead(book, row), row),
-        b'E' => is_answer(delivery(book, row), row),
-        b'S' => has_sum(tally(book, row), row),
-        b'N' => has_none(tally(book, row), row),
+        b'D' => is_balance(day_ahead(book, row), row),
+        b'E' => is_balance(delivery(book, row), row),
+        b'S' => tally(book, row).is_ok_and(|got| has_sum(got, row)),
+        b'N' => tally(book, row).is_ok_and(|got| has_none(got, row)),
         _ => caselist::steps::make(book, row),
     }
 }
@@ -81,13 +76,13 @@ fn line(words: &mut [u32], row: Row, score: &mut Score) {
     };
     match row.call {
         b'B' => {
-            score.check(row.line, is_answer(day_ahead(book, row), row));
-            score.check(row.line, is_answer(delivery(book, row), row));
+            score.check(row.line, is_balance(day_ahead(book, row), row));
+            score.check(row.line, is_balance(delivery(book, row), row));
         }
         b'X' => {
-            score.check(row.line, tally_refused(tally(book, row), row));
-            score.check(row.line, is_refused(day_ahead(book, row), row));
-            score.check(row.line, is_refused(delivery(book, row), row));
+            score.check(row.line, is_refused(tally(book, row), row.figures[2]));
+            score.check(row.line, no_balance(day_ahead(book, row), row));
+            score.check(row.line, no_balance(delivery(book, row), row));
         }
         _ => score.check(row.line, asked(book, row)),
     }
