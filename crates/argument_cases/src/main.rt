@@ -4,9 +4,6 @@
 
 use caselist::score::Score;
 
-// What a list has where no month is named.
-const NO_MONTH: u32 = 1200;
-
 // What stands before the first space, and what stands after it.
 fn at_space(text: &[u8]) -> Option<(&[u8], &[u8])> {
     let space = text.iter().position(|b| *b == b' ')?;
@@ -28,7 +25,7 @@ fn holds(line: &[u8]) -> bool {
         return false;
     };
     let named = month_argument::month_named(number(arguments) as usize, argument);
-    named.unwrap_or(NO_MONTH) == number(month)
+    named.unwrap_or(month_argument::NO_MONTH) == number(month)
 }
 
 fn main(rt: HostRuntime) {

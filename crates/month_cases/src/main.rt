@@ -4,10 +4,10 @@
 
 mod table;
 
+use case_figures::Month;
 use caselist::answers::told;
 use caselist::rows::{Row, low, signed_low};
 use caselist::score::Score;
-use case_figures::Month;
 use rules::Refusal;
 use table::Table;
 

@@ -48,7 +48,7 @@ fn sum(got: PartyDay, entry_type: u32) -> u64 {
 
 fn has_sum(got: PartyDay, row: Row) -> bool {
     let [party, _, entry_type, size, ..] = row.figures;
-    (got.answer == 0) & (u64::from(got.tally.party) == party) & (sum(got, low(entry_type)) == size)
+    (u64::from(got.tally.party) == party) & (sum(got, low(entry_type)) == size)
 }
 
 // Neither a sum nor B.
