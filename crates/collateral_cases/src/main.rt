@@ -4,32 +4,19 @@
 mod figures;
 
 use case_figures::Case;
+use caselist::answers::told;
 use caselist::rows::Row;
 use caselist::score::Score;
-use rules::Collateral;
+use rules::Items;
 
-// Each item and the total.
-fn has_items(got: Collateral, row: Row) -> bool {
-    let [margin, trading, imbalance, risk, yek, total, ..] = row.figures;
-    (got.answer == 0)
-        & (got.margin == margin)
-        & (got.trading == trading)
-        & (got.imbalance == imbalance)
-        & (got.risk == risk)
-        & (got.yek == yek)
-        & (got.total == total)
-}
-
-// The cause, and no other figure.
-fn has_cause(got: Collateral, cause: u64) -> bool {
-    (u64::from(got.answer) == cause)
-        & (got.margin == 0)
-        & (got.trading == 0)
-        & (got.imbalance == 0)
-        & (got.risk == 0)
-        & (got.yek == 0)
-        & (got.total == 0)
-}
+const NOTHING: Items = Items {
+    margin: 0,
+    trading: 0,
+    imbalance: 0,
+    risk: 0,
+    yek: 0,
+    total: 0,
+};
 
 // A case with the figures of a row, each after its letter.
 fn with_all(case: Case, figures: &[u64]) -> Case {
@@ -39,14 +26,26 @@ fn with_all(case: Case, figures: &[u64]) -> Case {
     )
 }
 
+// Each item and the total.
 fn done(book: &[u32], row: Row, case: Case) -> bool {
     let asked = with_all(case, &row.figures[6..]);
-    has_items(collateral::collateral(book, asked), row)
+    let [margin, trading, imbalance, risk, yek, total, ..] = row.figures;
+    let items = Items {
+        margin,
+        trading,
+        imbalance,
+        risk,
+        yek,
+        total,
+    };
+    collateral::collateral(book, asked) == Ok(items)
 }
 
+// The cause, and no other figure.
 fn refused(book: &[u32], row: Row, case: Case) -> bool {
     let asked = with_all(case, &row.figures[1..7]);
-    has_cause(collateral::collateral(book, asked), row.figures[0])
+    let other = collateral::collateral(book, asked).map(|items| items != NOTHING);
+    told(other) == (row.figures[0], 0)
 }
 
 // What a row asks, or a step that makes the book.

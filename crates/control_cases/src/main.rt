@@ -4,50 +4,57 @@
 
 mod writes;
 
+use caselist::answers::told;
 use caselist::book_words::{named, standing};
 use caselist::pair::Pair;
 use caselist::rows::{Row, low};
 use caselist::score::Score;
-use rules::Controlled;
+use rules::Counts;
 
 fn open(lent: &mut Pair, row: Row) -> bool {
     writes::head(lent.expected, row);
-    caselist::steps::open(lent.book, row)
+    caselist::steps::open(lent.book, row).is_ok()
 }
 
 fn post(lent: &mut Pair, row: Row) -> bool {
     let [party, day, entry_type, counterparty, amount, ..] = row.figures;
     let entry = standing(party, day, named(entry_type, counterparty), amount);
     writes::append(lent.expected, entry);
-    caselist::steps::post(lent.book, row).answer == 0
+    caselist::steps::post(lent.book, row).is_ok()
 }
 
 fn withdraw(lent: &mut Pair, row: Row) -> bool {
-    writes::restatus(lent.expected, low(row.figures[0]), 0x01000000);
-    caselist::steps::withdraw(lent.book, row.figures[0])
+    let number = low(row.figures[0]);
+    writes::restatus(lent.expected, number, 0x01000000);
+    book::withdraw(lent.book, number).is_ok()
 }
 
+const NOTHING: Counts = Counts {
+    first: 0,
+    second: 0,
+    cancelled: 0,
+};
+
 // The counts of a control that is done.
-fn has_counts(got: Controlled, row: Row) -> bool {
+fn has_counts(counts: Counts, row: Row) -> bool {
     let [_, first, second, cancelled, ..] = row.figures;
-    (got.answer == 0)
-        & (u64::from(got.first) == first)
-        & (u64::from(got.second) == second)
-        & (u64::from(got.cancelled) == cancelled)
+    (u64::from(counts.first) == first)
+        & (u64::from(counts.second) == second)
+        & (u64::from(counts.cancelled) == cancelled)
 }
 
 // A control that is done leaves a mark.
 fn done(lent: &mut Pair, row: Row) -> bool {
     let [day, ..] = row.figures;
     writes::append(lent.expected, standing(0, day, 21, 0));
-    has_counts(control::control(lent.book, low(day)), row)
+    control::control(lent.book, low(day)).is_ok_and(|counts| has_counts(counts, row))
 }
 
 // A refused control: its cause, and every other figure zero.
 fn refused(book: &mut [u32], row: Row) -> bool {
     let [day, cause, ..] = row.figures;
-    let got = control::control(book, low(day));
-    (u64::from(got.answer) == cause) & (got.first == 0) & (got.second == 0) & (got.cancelled == 0)
+    let other = control::control(book, low(day)).map(|counts| counts != NOTHING);
+    told(other) == (cause, 0)
 }
 
 // The calls, by letter. One that must be refused leaves the expected words as they are.

@@ -54,7 +54,7 @@ fn report(book: &[u32], row: Row) -> MonthReport {
 }
 
 fn controlled(book: &mut [u32], row: Row) -> bool {
-    control::control(book, low(row.figures[0])).answer == 0
+    control::control(book, low(row.figures[0])).is_ok()
 }
 
 // What a row asks of a report, or a step that makes the book.
