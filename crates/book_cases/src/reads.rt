@@ -1,51 +1,32 @@
 // The calls that change nothing: count, one entry, is it a book.
+use caselist::answers::{is_refused, told};
 use caselist::rows::{Row, low};
-use rules::EntryRead;
+use rules::{Entry, Refusal};
 
-fn is_entry(got: EntryRead, r: Row) -> bool {
-    (got.answer == 0)
-        & (got.party as u64 == r.b)
-        & (got.day as u64 == r.c)
-        & (got.entry_type as u64 == r.d)
-        & (got.counterparty as u64 == r.e)
-        & (got.status as u64 == r.f)
-        & (got.amount == r.g)
-}
-
-// The cause, and every other figure zero.
-fn is_refused(got: EntryRead, cause: u64) -> bool {
-    (got.answer as u64 == cause)
-        & (got.party == 0)
-        & (got.day == 0)
-        & (got.entry_type == 0)
-        & (got.counterparty == 0)
-        & (got.status == 0)
-        & (got.amount == 0)
-}
-
-fn counted(book: &[u32], answer: u64, count: u64) -> bool {
-    let got = book::count(book);
-    (got.answer as u64 == answer) & (got.count as u64 == count)
+fn is_entry(entry: Entry, row: Row) -> bool {
+    let [_, party, day, entry_type, counterparty, status, amount, ..] = row.figures;
+    (u64::from(entry.key.party) == party)
+        & (u64::from(entry.key.day) == day)
+        & (u64::from(entry.key.entry_type) == entry_type)
+        & (u64::from(entry.key.counterparty) == counterparty)
+        & (u64::from(entry.status) == status)
+        & (entry.amount == amount)
 }
 
 // Each refuses what is no book.
 pub fn no_book(book: &[u32]) -> bool {
-    let entry = is_refused(book::entry(book, 0), 1);
-    entry & !book::is_book(book) & counted(book, 1, 0)
+    (book::entry(book, 0) == Err(Refusal::NotABook))
+        & !book::is_book(book)
+        & (book::count(book) == Err(Refusal::NotABook))
 }
 
-pub fn asked(book: &[u32], r: Row) -> bool {
-    if r.call == b'E' {
-        return is_entry(book::entry(book, low(r.a)), r);
+pub fn asked(book: &[u32], row: Row) -> bool {
+    let [first, second, ..] = row.figures;
+    match row.call {
+        b'E' => book::entry(book, low(first)).is_ok_and(|entry| is_entry(entry, row)),
+        b'H' => is_refused(book::entry(book, low(first)), second),
+        b'C' => told(book::count(book)) == (first, second),
+        b'I' => u64::from(book::is_book(book)) == first,
+        _ => false,
     }
-    if r.call == b'H' {
-        return is_refused(book::entry(book, low(r.a)), r.b);
-    }
-    if r.call == b'C' {
-        return counted(book, r.a, r.b);
-    }
-    if r.call == b'I' {
-        return book::is_book(book) as u64 == r.a;
-    }
-    false
 }

@@ -1,74 +1,45 @@
 // The steps that make a book: each must be done.
-use crate::book_words::{of_kind, put, put_entry};
+use crate::book_words::{named, of_kind, put, put_entry, standing};
 use crate::rows::{Row, low};
-use rules::Key;
-
-// Type and counterparty as the kind 3 word has them.
-pub fn named(entry_type: u64, counterparty: u64) -> u64 {
-    entry_type % 256 + 256 * (counterparty % 65536)
-}
+use rules::{Key, Refusal};
 
 // Party, day, type, counterparty and amount are the first five figures.
-pub fn post(book: &mut [u32], r: Row) -> rules::Posted {
+pub fn post(book: &mut [u32], row: Row) -> Result<u32, Refusal> {
+    let [party, day, entry_type, counterparty, amount, ..] = row.figures;
     let key = Key {
-        party: low(r.a),
-        day: low(r.b),
-        entry_type: low(r.c),
-        counterparty: low(r.d),
+        party: low(party),
+        day: low(day),
+        entry_type: low(entry_type),
+        counterparty: low(counterparty),
     };
-    book::post(book, key, r.e)
+    book::post(book, key, amount)
 }
 
-fn posted(book: &mut [u32], r: Row) -> bool {
-    let got = post(book, r);
-    got.answer == 0
+pub fn open(book: &mut [u32], row: Row) -> Result<(), Refusal> {
+    let [coefficient, tolerance, ..] = row.figures;
+    opening::open(book, low(coefficient), low(tolerance))
 }
 
-// One entry n times.
-fn entries(book: &mut [u32], n: u32, party: u64, day: u64, figures: u64, amount: u64) {
-    let mut i: u32 = 0;
-    while i < n {
-        put_entry(book, i, party, day, figures, amount);
-        i += 1;
+// The test writes one entry n times, and their count.
+fn fill(book: &mut [u32], row: Row) -> bool {
+    let [party, day, entry_type, counterparty, amount, n, ..] = row.figures;
+    let _ = put(book, 0, of_kind(6, n));
+    let entry = standing(party, day, named(entry_type, counterparty), amount);
+    for number in 0..low(n) {
+        put_entry(book, number, entry);
     }
-}
-
-fn fill(book: &mut [u32], r: Row) -> bool {
-    put(book, 0, of_kind(6, r.f));
-    entries(book, low(r.f), r.a, r.b, named(r.c, r.d), r.e);
     true
 }
 
-fn put_word(book: &mut [u32], r: Row) -> bool {
-    let i = low(r.a) as usize;
-    if i < book.len() {
-        book[i] = low(r.b);
-        return true;
+// O: open; P: post; W: withdraw; M: the test writes entries and their count; K: it writes a word.
+pub fn make(book: &mut [u32], row: Row) -> bool {
+    let [first, second, ..] = row.figures;
+    match row.call {
+        b'O' => open(book, row).is_ok(),
+        b'P' => post(book, row).is_ok(),
+        b'W' => book::withdraw(book, low(first)).is_ok(),
+        b'M' => fill(book, row),
+        b'K' => put(book, low(first) as usize, low(second)),
+        _ => false,
     }
-    false
-}
-
-// M: the test writes entries and their count; K: it writes a word.
-fn written(book: &mut [u32], r: Row) -> bool {
-    if r.call == b'M' {
-        return fill(book, r);
-    }
-    if r.call == b'K' {
-        return put_word(book, r);
-    }
-    false
-}
-
-// O: open; P: post; W: withdraw.
-pub fn make(book: &mut [u32], r: Row) -> bool {
-    if r.call == b'O' {
-        return opening::open(book, low(r.a), low(r.b)) == 0;
-    }
-    if r.call == b'P' {
-        return posted(book, r);
-    }
-    if r.call == b'W' {
-        return book::withdraw(book, low(r.a)) == 0;
-    }
-    written(book, r)
 }

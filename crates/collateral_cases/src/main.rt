@@ -4,104 +4,82 @@
 mod figures;
 
 use case_figures::Case;
+use caselist::answers::told;
 use caselist::rows::Row;
-use caselist::score::{Score, told};
-use figures::with;
-use rules::Collateral;
-use std::io::Stdout;
+use caselist::score::Score;
+use rules::Items;
+
+const NOTHING: Items = Items {
+    margin: 0,
+    trading: 0,
+    imbalance: 0,
+    risk: 0,
+    yek: 0,
+    total: 0,
+};
+
+// A case with the figures of a row, each after its letter.
+fn with_all(case: Case, figures: &[u64]) -> Case {
+    figures.chunks_exact(2).fold(
+        case,
+        |case, figure| figures::with(case, figure[0], figure[1]),
+    )
+}
 
 // Each item and the total.
-fn has_items(got: Collateral, r: Row) -> bool {
-    (got.answer == 0)
-        & (got.margin == r.a)
-        & (got.trading == r.b)
-        & (got.imbalance == r.c)
-        & (got.risk == r.d)
-        & (got.yek == r.e)
-        & (got.total == r.f)
+fn done(book: &[u32], row: Row, case: Case) -> bool {
+    let asked = with_all(case, &row.figures[6..]);
+    let [margin, trading, imbalance, risk, yek, total, ..] = row.figures;
+    let items = Items {
+        margin,
+        trading,
+        imbalance,
+        risk,
+        yek,
+        total,
+    };
+    collateral::collateral(book, asked) == Ok(items)
 }
 
 // The cause, and no other figure.
-fn has_cause(got: Collateral, r: Row) -> bool {
-    (got.answer as u64 == r.a)
-        & (got.margin == 0)
-        & (got.trading == 0)
-        & (got.imbalance == 0)
-        & (got.risk == 0)
-        & (got.yek == 0)
-        & (got.total == 0)
-}
-
-fn two(case: Case, a: u64, b: u64, c: u64, d: u64) -> Case {
-    with(with(case, a, b), c, d)
-}
-
-fn done(book: &[u32], r: Row, case: Case) -> bool {
-    let asked = two(two(case, r.g, r.h, r.i, r.j), r.k, r.l, r.m, r.n);
-    has_items(collateral::collateral(book, asked), r)
-}
-
-fn refused(book: &[u32], r: Row, case: Case) -> bool {
-    let asked = with(two(case, r.b, r.c, r.d, r.e), r.f, r.g);
-    has_cause(collateral::collateral(book, asked), r)
-}
-
-// The case of the rows that follow: a plain supplier's with these figures, or with a month answer more.
-fn of_case(r: Row, case: Case) -> Case {
-    if r.call == b'C' {
-        let first = two(figures::plain(), r.a, r.b, r.c, r.d);
-        let second = two(first, r.e, r.f, r.g, r.h);
-        return with(two(second, r.i, r.j, r.k, r.l), r.m, r.n);
-    }
-    if r.call == b'A' {
-        return figures::with_month(case, r.a, r.b, r.c);
-    }
-    case
+fn refused(book: &[u32], row: Row, case: Case) -> bool {
+    let asked = with_all(case, &row.figures[1..7]);
+    let other = collateral::collateral(book, asked).map(|items| items != NOTHING);
+    told(other) == (row.figures[0], 0)
 }
 
 // What a row asks, or a step that makes the book.
-fn step(book: &mut [u32], r: Row, case: Case) -> bool {
-    if r.call == b'D' {
-        return done(book, r, case);
+fn asked(book: &mut [u32], row: Row, case: Case) -> bool {
+    match row.call {
+        b'D' => done(book, row, case),
+        b'R' => refused(book, row, case),
+        _ => caselist::steps::make(book, row),
     }
-    if r.call == b'R' {
-        return refused(book, r, case);
-    }
-    caselist::steps::make(book, r)
 }
 
-fn lend(book: &mut [u32], r: Row, case: Case, n: usize) -> bool {
-    if book.len() < n {
-        return false;
-    }
-    step(&mut book[..n], r, case)
-}
-
-fn line(book: &mut [u32], r: Row, case: Case, s: Score) -> Score {
-    if caselist::score::is_setting(r) {
-        return caselist::score::set(s, r);
-    }
-    if (r.call == b'C') | (r.call == b'A') {
-        return s;
-    }
-    told(s, r.line, lend(book, r, case, s.lent))
-}
-
-fn run(table: &[u64], rows: usize, book: &mut [u32], out: Stdout) {
-    let mut case = figures::plain();
-    let mut s = caselist::score::none(out);
-    let mut i = 0;
-    while i < rows {
-        let r = caselist::rows::row_at(table, i);
-        case = of_case(r, case);
-        s = line(book, r, case, s);
-        i += 1;
+// The case of the rows that follow, a plain supplier's with these figures or with a month answer more; or a question on the
+// words that are lent.
+fn line(words: &mut [u32], case: &mut Case, row: Row, score: &mut Score) {
+    match row.call {
+        b'C' => *case = with_all(figures::plain(), &row.figures),
+        b'A' => {
+            let [place, aosmf, aedm, ..] = row.figures;
+            *case = figures::with_month(*case, place, aosmf, aedm);
+        }
+        _ => {
+            let holds = match words.get_mut(..score.lent()) {
+                Some(book) => asked(book, row, *case),
+                None => false,
+            };
+            score.check(row.line, holds);
+        }
     }
 }
 
 fn main(rt: HostRuntime) {
-    let mut table = [0u64; 16000];
-    let rows = caselist::rows::read(&mut rt.stdin(), &mut table);
-    let mut book = [0u32; 15363];
-    run(&table, rows, &mut book, rt.stdout());
+    let mut words = [0u32; 15363];
+    let mut case = figures::plain();
+    caselist::score::run(&mut rt.stdin(), rt.stdout(), |row, score| {
+        line(&mut words, &mut case, row, score)
+    });
 }
