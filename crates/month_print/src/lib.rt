@@ -18,10 +18,10 @@ pub const MOST_TEXT: usize = 14784;
 fn month_into(book: &mut [u32], file: &[u8], month: u32, out: &mut [u8]) -> usize
     ensures { Wrote out.old 0 (month_into (open_default_words book.old) file.now month) result out.new }
 {
-    opening::open_default(book);
-    let found = dayfile::read_file(book, file);
-    if found.answer != 0 {
-        return text::refused(found.answer, out);
+    // what cannot be opened is no book for the file
+    let _ = opening::open_default(book);
+    if let Err(refusal) = dayfile::read_file(book, file) {
+        return text::refused(refusal.into(), out);
     }
     month_text::put_report(month_report::month_report(book, month), out)
 }

@@ -5,6 +5,7 @@ ghost use Rattle.text.specs.Text.{IsPrefixLen, Whole};
 ghost use Rattle.report.specs.Report.{printed};
 
 use program_input::Output;
+use rules::Refusal;
 use std::io::Read;
 
 // The whole report on what a reader holds; a read that fails is refused by 2.
@@ -26,7 +27,7 @@ pub fn report_from<R: Read>(
     let read = program_input::read_whole(reader, buffer);
     let count = match &read {
         Ok(read) => crate::report(&buffer[..*read], out),
-        Err(_) => text::refused(rules::causes::BAD_FILE, out),
+        Err(_) => text::refused(Refusal::BadFile.into(), out),
     };
     Output { read, count }
 }

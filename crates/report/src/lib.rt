@@ -1,9 +1,8 @@
 // What the program `balance` prints, as a function on slices (01, 'Day file').
 #![tactic(auto)]
 
-ghost use Rattle.std.specs.Prelude.{◌≡◌, true, ◌≤◌, length};
+ghost use Rattle.std.specs.Prelude.{◌≤◌, length};
 ghost use Rattle.rules.specs.Entry.{last_party};
-ghost use Rattle.rules.specs.Words.{is_book};
 ghost use Rattle.rules.specs.Book.{open_default_words};
 ghost use Rattle.text.specs.Text.{Wrote, Whole};
 ghost use Rattle.text.specs.Written.{Puts};
@@ -13,6 +12,7 @@ ghost use Rattle.report.specs.Report.{line_text, line_of, party_lines, all_lines
 use rules::bounds::{DAYS, NUMBERS};
 use rules::layout::BOOK_WORDS;
 use text::Out;
+use words::Book;
 
 pub mod input;
 
@@ -33,34 +33,26 @@ fn put_line(party: u32, day: u32, ahead: i64, due: i64, out: &mut Out<'_>)
 }
 
 // A day file, and the book that it was read into.
-#[derive(Clone, Copy, Drop)]
+#[derive(Drop)]
 struct Filed<'a> {
-    book: &'a [u32],
+    book: Book<'a>,
     file: &'a [u8],
-    ghost is_book: { is_book book.now ≡ true },
 }
 
 impl<'a> Filed<'a> {
     // Both balances by one scan of the book.
     fn put_pair(&self, party: u32, day: u32, out: &mut Out<'_>)
-        requires { Asked self.now.book.now party day }
-        ensures { Puts out.old (line_of self.now.book.now party day) out.new }
+        requires { Asked self.now.book party day }
+        ensures { Puts out.old (line_of self.now.book party day) out.new }
     {
-        let book = self.book;
-        let read = tally::scan(book, party, day);
-        let t = read.tally;
-        let bought = read.bought;
-        let coefficient = words::coefficient_of(book);
-        let tolerance = words::tolerance_of(book);
-        let ahead = balance_formulas::day_ahead_of(t, bought, coefficient, tolerance);
-        let due = balance_formulas::delivery_of(t, bought, coefficient, tolerance);
-        put_line(party, day, ahead, due, out);
+        let figures = tally::scan(&self.book, party, day);
+        put_line(party, day, figures.day_ahead(), figures.delivery(), out);
     }
 
     // A line for each day of the party that the file names.
     fn put_party(&self, party: u32, out: &mut Out<'_>)
         requires { (1 ≤ party) × (party ≤ last_party) }
-        ensures { Puts out.old (party_lines self.now.file.now self.now.book.now party) out.new }
+        ensures { Puts out.old (party_lines self.now.file.now self.now.book party) out.new }
     {
         let mut days = [false; DAYS];
         file_names::mark_days(self.file, party, &mut days);
@@ -73,7 +65,7 @@ impl<'a> Filed<'a> {
 
     // The lines of the parties that the file names. One that it does not name has none.
     fn put_parties(&self, out: &mut Out<'_>)
-        ensures { Puts out.old (all_lines self.now.file.now self.now.book.now) out.new }
+        ensures { Puts out.old (all_lines self.now.file.now self.now.book) out.new }
     {
         let mut parties = [false; NUMBERS];
         file_names::mark_parties(self.file, &mut parties);
@@ -88,13 +80,14 @@ impl<'a> Filed<'a> {
 fn report_into(book: &mut [u32], file: &[u8], out: &mut [u8]) -> usize
     ensures { Wrote out.old 0 (report_into (open_default_words book.old) file.now) result out.new }
 {
-    opening::open_default(book);
-    let found = dayfile::read_file(book, file);
-    if found.answer != 0 {
-        return text::refused(found.answer, out);
+    // what cannot be opened is no book for the file
+    let _ = opening::open_default(book);
+    if let Err(refusal) = dayfile::read_file(book, file) {
+        return text::refused(refusal.into(), out);
     }
     let mut text = Out::new(out);
     text.put_bytes(b"party day ahead delivery\n");
+    let book = Book::known(book);
     Filed { book, file }.put_parties(&mut text);
     text.count()
 }
