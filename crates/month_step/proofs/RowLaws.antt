@@ -1,18 +1,19 @@
 -- The sums of a row: an hour more, and their limits. Assumes nothing.
 use mathlib.Core.Path.{◌≡◌, sym, ◌∙◌, ap, ap₂}
 use mathlib.Core.List.{List}
-use Prim.Native.Nat.{ℕ, ◌+◌, ◌*◌, ◌≤◌, ◌<◌}
+use Prim.Native.Nat.{ℕ, ◌+◌, ◌*◌, ◌≤◌, ◌<◌, ◌^◌}
 use native.Mathlib.Nat.{mul-le-mul}
 use native.Mathlib.Omega.{arith}
-use lib.IntN.{ℤ, nat_abs, ◌+ℤ◌}
+use lib.IntN.{ℤ, pos, nat_abs, ◌+ℤ◌, ◌-ℤ◌}
+use lib.Signed.{mag}
 use lib.ListN.{length, get_or}
-use mir.Syntax.{w64}
-use mir.Val.{SFits}
+use mir.Syntax.{w32, w64}
+use mir.Val.{SFits, hbits}
 use mir.ValLaws.{to_z-of_z}
 use Rattle.numbers.proofs.SumLaws.{sum_step, sum_bound}
 use Rattle.numbers.proofs.SignedLaws.{sum_ℤ-step, sum_ℤ-bound}
 use Rattle.month_step.specs.Rows.{PricedRow, DmRow, figure_at, difference_at, first_weighted, first_weights, first_volume}
-use Rattle.month_step.proofs.BitLaws.{in64, fits64}
+use Rattle.month_step.proofs.BitLaws.{in32, in64, exact32, fits64}
 
 -- limits of the sums of n hours
 module _ (prices : List ℕ) (imbalance : List ℤ) (at n : ℕ) (r : PricedRow prices imbalance at) where
@@ -52,11 +53,13 @@ pub record HourLess (imbalance : List ℤ) (at : ℕ) (dm : List ℤ) (h : ℕ) 
   pub added : SFits w64 (volume +ℤ in64 less)
   pub exact : in64 (volume +ℤ in64 less) ≡ first_volume imbalance at dm (h + 1)
 
-pub hour-less : (imbalance : List ℤ) (at : ℕ) (dm : List ℤ) (h : ℕ) {volume less : ℤ} → DmRow imbalance at dm → h < length dm →
-    volume ≡ first_volume imbalance at dm h → less ≡ difference_at imbalance at dm h → HourLess imbalance at dm h volume less
+pub hour-less : (imbalance : List ℤ) (at : ℕ) (dm : List ℤ) (h : ℕ) {volume less x y : ℤ} → DmRow imbalance at dm → h < length dm →
+    volume ≡ first_volume imbalance at dm h → less ≡ in32 x -ℤ in32 y → mag x < 2 ^ hbits w32 → mag y < 2 ^ hbits w32 →
+    x ≡ figure_at imbalance at h → y ≡ get_or dm h (pos 0) → HourLess imbalance at dm h volume less
 unfolding first_volume
-hour-less imbalance at dm h {volume} {less} r below e d =
+hour-less imbalance at dm h {volume} {less} {x} {y} r below e l fx fy hx hy =
     let f : ℕ → ℤ = difference_at imbalance at dm in
+    let d : less ≡ f h = l ∙ ap₂ ◌-ℤ◌ (exact32 x fx ∙ hx) (exact32 y fy ∙ hy) in
     let next : ℤ = first_volume imbalance at dm (h + 1) in
     let same : volume +ℤ in64 less ≡ next =
     ap₂ ◌+ℤ◌ e (ap in64 d ∙ to_z-of_z w64 (f h) (fits64 (f h) (omega (arith, r.difference h)))) ∙ sym (sum_ℤ-step h f) in

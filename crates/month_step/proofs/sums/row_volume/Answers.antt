@@ -1,11 +1,10 @@
-use mathlib.Core.Path.{refl, ◌∙◌, ap₂}
+use mathlib.Core.Path.{refl}
 use native.Mathlib.Omega.{arith}
-use lib.IntN.{pos, ◌-ℤ◌}
+use lib.IntN.{pos}
 use mir.Syntax.{w64}
 use mir.Val.{to_z}
 use Rattle.numbers.specs.Signed.{sum_ℤ}
 use Rattle.month_step.specs.Rows.{first_volume}
-use Rattle.month_step.proofs.BitLaws.{exact32}
 use Rattle.month_step.proofs.RowLaws.{HourLess, hour-less}
 use Rattle.month_step.proofs.sums.row_volume.Given.{Over}
 use Rattle.month_step.proofs.sums.row_volume.Goals as goal
@@ -16,16 +15,15 @@ turn : (g : Over) (c : After-difference-volume g) →
     HourLess (g.V.Figures.figures c.args.imbalance.now) c.args.at (g.V.Figures.figures c.args.dm.now) c.loop-h.h
     (to_z w64 c.loop-h.volume-bits) c.difference-volume.result
 turn g c =
-    let imbalance = c.figure in
-    let dm = c.figure-in-loop-h in
     hour-less _ c.args.at _ c.loop-h.h
     c.requires.beside_dm
     (omega arith)
     c.loop-h.invariant
-    (c.difference-volume.ensures
-    ∙ ap₂ ◌-ℤ◌
-    (exact32 imbalance.result imbalance.type_inv ∙ imbalance.ensures (pos 0))
-    (exact32 dm.result dm.type_inv ∙ dm.ensures (pos 0)))
+    c.difference-volume.ensures
+    c.figure.type_inv
+    c.figure-in-loop-h.type_inv
+    (c.figure.ensures (pos 0))
+    (c.figure-in-loop-h.ensures (pos 0))
 
 pub loop-h-init : goal.loop-h-init
 unfolding first_volume sum_ℤ
