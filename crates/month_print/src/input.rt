@@ -8,7 +8,8 @@ use program_input::Output;
 use rules::Refusal;
 use std::io::Read;
 
-// The whole report on what a reader holds; a read that fails is refused by 2.
+// The whole report on what a reader holds; a read that fails is refused by 2. One function for this and `report_from`
+// would take the work as a closure that writes to `out`, and the promises, which are most of it, would still stand here.
 pub fn printed_from<R: Read>(
     reader: &mut R,
     buffer: &mut [u8],

@@ -34,7 +34,7 @@ pub struct Output {
     pub count: usize,
 }
 
-// Prints what a program has, and says on standard error what failed.
+// Prints what a program has, and says on standard error what failed. Of the system's writers no contract can say what is written.
 pub fn print(rt: &(impl Print + Eprint), program: &str, output: &Output, text: &[u8]) {
     if output.read.is_err() {
         let _ = eprintln!(rt; "{program}: read failed");

@@ -81,9 +81,6 @@ wrote_one out at b h = record { place = omega arith; bytes = refl }
 pub puts_none : (out : Out) → Puts out [] out
 puts_none out = record { lent = refl; wrote = wrote_nothing _ _ out.within }
 
-pub puts_same : {a b : Out} {s t : List ℕ} → s ≡ t → Puts a s b → Puts a t b
-puts_same e p = rw (← e) p
-
 pub puts_then : {a b c : Out} {s t : List ℕ} → Puts a s b → Puts b t c → Puts a (s ++ t) c
 puts_then p q = record { lent = q.lent ∙ p.lent; wrote = wrote_then p.wrote q.wrote }
 
