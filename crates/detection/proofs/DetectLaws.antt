@@ -12,7 +12,7 @@ use Rattle.numbers.proofs.TestLaws.{bool_cases}
 use Rattle.rules.specs.Entry.{party_ok, party_places}
 use Rattle.rules.specs.Words.{is_book, entries, count_of, coefficient_of, tolerance_of}
 use Rattle.rules.specs.Control.{detected_in}
-use Rattle.rules.proofs.WordLaws.{book-facts, within-true}
+use Rattle.rules.proofs.WordLaws.{within-true}
 use Rattle.cells.specs.Cells.{AtMost}
 use Rattle.cells.proofs.ScanLaws.{table_to}
 use Rattle.balance_formulas.specs.Bounded.{most_sum}

@@ -1,6 +1,6 @@
 -- What the scan of a control makes of the entries: of each party what its day-ahead balance reads, and who is detected by it.
 -- Only the contracts of internal functions cite these; the laws tie them to rules/specs/Control.
-use Rattle.std.specs.Prelude.{Bool, true, not, cond, ◌&&◌, ◌||◌, List, [], ◌∷◌, ℕ, ◌+◌, ◌*◌, ◌≤◌, max, eqb, ℤ, get_or}
+use Rattle.std.specs.Prelude.{Bool, true, not, cond, ◌&&◌, ◌||◌, List, [], ◌∷◌, ℕ, ◌+◌, ◌*◌, max, eqb, ℤ, get_or}
 use Rattle.std.proofs.Math.IntN.{sub_ℕ}
 use Rattle.numbers.specs.Tests.{every}
 use Rattle.rules.specs.Entry.{Label, Record, is_export, bilateral, updated_program, standing, party_ok, last_party}
