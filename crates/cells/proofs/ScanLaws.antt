@@ -79,6 +79,10 @@ pub scan-entry : {S : Type 0} {f : Record → S → S} {none s t : S} {ws : List
 unfolding entry_at
 scan-entry {f = f} {s = s} c h q p r = scan-more (rw c at h) p (r ∙ ap (λ x. f (record_in x) s) q)
 
+pub scan-words : {S : Type 0} {f : Record → S → S} {none s t : S} {ws : List ℕ} {n i : ℕ} {r : Record} → n ≡ count_of ws → i < n → r ≡ entry_at ws i → Scanned f none ws (count_of ws) i s → t ≡ f r s → Scanned f none ws (count_of ws) (i + 1) t
+unfolding entry_at
+scan-words {f = f} {s = s} c h q p r = scan-more (rw c at h) p (r ∙ ap (λ x. f x s) q)
+
 pub scan-all : {S : Type 0} {f : Record → S → S} {none s : S} {ws : List ℕ} {n i : ℕ} → n ≡ count_of ws → n ≤ i → Scanned f none ws (count_of ws) i s → s ≡ over f (entries ws) none
 scan-all c h p = scan-done refl (rw c at h) p
 

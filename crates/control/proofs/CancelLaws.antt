@@ -2,21 +2,19 @@
 use mathlib.Core.Path.{◌≡◌, ap, ◌∙◌}
 use mathlib.Core.Bool.{Bool, true, false, cond}
 use mathlib.Core.List.{List, [], ◌∷◌}
-use Prim.Native.Nat.{ℕ, ◌+◌, ◌*◌, ◌≤◌, ◌<◌}
+use Prim.Native.Nat.{ℕ, ◌+◌, ◌≤◌, ◌<◌}
 use native.Mathlib.Numerals.{add-one}
 use native.Mathlib.Omega.{arith}
-use lib.ListN.{length, get_or, take, drop, length-take}
+use lib.ListN.{length, get_or, take, length-take}
 use lib.Seq.{take-suc}
 use Rattle.numbers.specs.Sums.{total, count}
 use Rattle.numbers.proofs.SumLaws.{total-append, count-le-length}
-use Rattle.numbers.proofs.TestLaws.{all_get_d}
-use Rattle.rules.specs.Entry.{Record, no_record, legal, cancelled, record_in, entry_of}
-use Rattle.rules.specs.Words.{is_book, entries, count_of, decode}
+use Rattle.rules.specs.Entry.{Record, no_record, cancelled, record_in, entry_of}
+use Rattle.rules.specs.Words.{is_book, entries, count_of}
 use Rattle.rules.specs.Book.{entry_at}
 use Rattle.rules.specs.Stores.{restatused}
 use Rattle.rules.specs.Control.{Parties, is_to_cancel, cancel_of}
 use Rattle.rules.specs.declared.Entry.{Entry}
-use Rattle.rules.proofs.WordLaws.{book-facts, legal-bounds}
 use Rattle.rules.proofs.StatusLaws as status
 use Rattle.rules.proofs.CancelLaws.{cancels}
 use Rattle.words.proofs.BookCode.{Placed, book-entry}
@@ -45,20 +43,15 @@ module _ (who : Parties) (d : ℕ) where
     through-all = status.through-all (is_to_cancel who d) cancelled (cancels who d) ws b
 
     module _ (i : ℕ) (h : i < count_of ws) (vs : List ℕ) (t : Through who d ws i vs) where
+      pub through-book : (is_book vs ≡ true) × (i < count_of vs)
+      through-book = status.through-book (is_to_cancel who d) cancelled (cancels who d) ws b i h vs t
+
       pub through-placed : Placed vs i
-      through-placed =
-          let k = status.through-book (is_to_cancel who d) cancelled (cancels who d) ws b i h vs t in
-          book-entry vs k.0 i k.1
+      through-placed = book-entry vs through-book.0 i through-book.1
 
-      module _ (e : Entry) (q : e ≡ entry_of (decode (drop (3 + 5 * i) vs))) where
+      module _ (e : Entry) (q : e ≡ entry_of (entry_at vs i)) where
         pub through_read : record_in e ≡ get_or (entries ws) i no_record
-        unfolding entry_at
         through_read = ap record_in q ∙ status.through-entry (is_to_cancel who d) cancelled (cancels who d) ws b i h vs t
-
-        pub through-party : e.key.party ≤ 999
-        through-party =
-            let l = all_get_d legal (entries ws) (book-facts ws b).legals i no_record (rw (book-facts ws b).count h) in
-            (legal-bounds (record_in e) (rw through_read l)).party
 
         pub through-cancelled : {us : List ℕ} → is_to_cancel who d (record_in e) ≡ true → us ≡ restatused cancelled vs i → Through who d ws (i + 1) us
         through-cancelled y u = status.through-changed (is_to_cancel who d) cancelled (cancels who d) ws b i h vs t (rw through_read at y) u

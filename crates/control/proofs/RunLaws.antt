@@ -7,7 +7,9 @@ use native.Mathlib.Nat.{le_refl}
 use native.Mathlib.Omega.{arith}
 use lib.ListN.{length, drop}
 use lib.Seq.{drop-drop}
-use borrow.Author.Tests.{lt-ltb, le-ltb}
+use lib.Dec.{leb}
+use borrow.Author.Tests.{lt-ltb, le-ltb, leb-true, leb-false}
+use Rattle.std.specs.Prelude.{Err}
 use Rattle.numbers.specs.Sums.{count}
 use Rattle.numbers.specs.Tests.{all}
 use Rattle.numbers.proofs.TestLaws.{all_append}
@@ -18,7 +20,11 @@ use Rattle.rules.specs.Book.{is_closed}
 use Rattle.rules.specs.Stores.{posted}
 use Rattle.rules.specs.Control.{Parties, is_to_cancel, cancel_of, first_pass, after_first, second_pass, after_second, mark_of, controlled_records, detected_parties, cancelled_entries}
 use Rattle.rules.specs.Calls.{control, figures_on, changed, cause_of, words_after, control_answer}
+use Rattle.rules.specs.Refusals.{number_of}
+use Rattle.rules.specs.Answers.{controlled_of}
+use Rattle.rules.specs.declared.refusal.Refusal.{Refusal}
 use Rattle.rules.specs.declared.Controlled.{Controlled}
+use Rattle.rules.proofs.RefusalLaws.{number-not_zero}
 use Rattle.rules.proofs.WordLaws.{book-facts, book-laid}
 use Rattle.rules.proofs.BookLaws.{Stays, laid-stays, posted-book, mark-legal, length-snoc}
 use Rattle.rules.proofs.CancelLaws.{cancel-length, cancel-legals}
@@ -167,14 +173,13 @@ module _ (ws : List ℕ) (d : ℕ) where
   pub cause-closed : is_book ws ≡ true → day_ok d ≡ true → is_closed d (entries ws) ≡ true → 8 ≡ cause_of ws (control d)
   cause-closed b h e = rw (control-cause, b, h, e)
 
-  pub cause-room : is_book ws ≡ true → day_ok d ≡ true → is_closed d (entries ws) ≡ false → room_in (length ws) ≤ count_of ws → 9 ≡ cause_of ws (control d)
-  cause-room b h c e = rw (control-cause, b, h, c, le-ltb (count_of ws) (room_in (length ws)) e)
+  pub cause-room : is_book ws ≡ true → day_ok d ≡ true → is_closed d (entries ws) ≡ false → leb (count_of ws + 1) (room_in (length ws)) ≡ false → 9 ≡ cause_of ws (control d)
+  cause-room b h c e = rw (control-cause, b, h, c, le-ltb (count_of ws) (room_in (length ws)) (let q = leb-false _ _ e in omega arith))
 
-  pub cause-none : is_book ws ≡ true → day_ok d ≡ true → is_closed d (entries ws) ≡ false → count_of ws < room_in (length ws) → 0 ≡ cause_of ws (control d)
-  cause-none b h c e = rw (control-cause, b, h, c, lt-ltb (count_of ws) (room_in (length ws)) e)
+  pub cause-none : is_book ws ≡ true → day_ok d ≡ true → is_closed d (entries ws) ≡ false → leb (count_of ws + 1) (room_in (length ws)) ≡ true → 0 ≡ cause_of ws (control d)
+  cause-none b h c e = rw (control-cause, b, h, c, lt-ltb (count_of ws) (room_in (length ws)) (let q = leb-true _ _ e in omega arith))
 
-  pub refused : {cause : ℕ} → cause ≡ cause_of ws (control d) → (cause ≡ 0 → ⊥) →
-      (◌≡◌ {A = Controlled} (record { answer = cause; first = 0; second = 0; cancelled = 0 }) (control_answer ws d)) × (ws ≡ words_after ws (control d))
+  pub refused : (e : Refusal) → number_of e ≡ cause_of ws (control d) → (controlled_of (Err e) ≡ control_answer ws d) × (ws ≡ words_after ws (control d))
   refused e h =
-      let n : cause_of ws (control d) ≡ 0 → ⊥ = λ q. h (e ∙ q) in
-      (rw (refused-figures ws (control d) n) (ap (λ k. record { answer = k; first = 0; second = 0; cancelled = 0 }) e), sym (refused-words ws (control d) n))
+      let n : cause_of ws (control d) ≡ 0 → ⊥ = λ q. number-not_zero e (h ∙ q) in
+      (rw (refused-figures ws (control d) n) (ap (λ k. record { answer = k; first = 0; second = 0; cancelled = 0 }) h), sym (refused-words ws (control d) n))

@@ -1,45 +1,45 @@
 // Control of a day (document 01, 'Control of a day').
 #![tactic(auto)]
 
-ghost use Rattle.std.specs.Prelude.{◌≡◌};
+ghost use Rattle.std.specs.Prelude.{◌≡◌, Result, Ok};
+ghost use Rattle.rules.specs.Refusals.{answer_of};
+ghost use Rattle.rules.specs.Answers.{controlled_of};
 ghost use Rattle.rules.specs.Calls.{cause_of, words_after, control_answer};
 ghost use Rattle.rules.specs.Calls as calls;
 
 use detection::Pass;
-use rules::{Controlled, causes};
+use rules::{Counts, Refusal};
+use words::Book;
 
 mod passes;
 
-fn control_cause(book: &[u32], day: u32) -> u32
-    ensures { result ≡ cause_of book.now (calls.control day) }
+// Whether a day of a book can be controlled.
+fn check(book: &[u32], day: u32) -> Result<(), Refusal>
+    ensures { answer_of result ≡ cause_of book.now (calls.control day) }
 {
-    if !book::is_book(book) {
-        return causes::NOT_A_BOOK;
-    }
+    let book = Book::of(book)?;
     if !entry_checks::day_ok(day) {
-        return causes::BAD_DAY;
+        return Err(Refusal::BadDay);
     }
-    if words::is_closed(book, day) {
-        return causes::DAY_CLOSED;
+    if book.is_closed(day) {
+        return Err(Refusal::DayClosed);
     }
-    let count = words::count_of(book) as usize;
-    if words::room(book.len()) <= count {
-        return causes::NO_ROOM;
+    if !book.has_room(1) {
+        return Err(Refusal::NoRoom);
     }
-    0
+    Ok(())
 }
 
 // First pass: every party, by the book at entry. Second pass: the buyers of repeated pairs, by the book after the first.
-fn run(book: &mut [u32], day: u32) -> Controlled
+fn run(book: &mut [u32], day: u32) -> Counts
     requires { cause_of book.old (calls.control day) ≡ 0 }
-    ensures answer { result ≡ control_answer book.old day }
+    ensures answer { controlled_of (Ok result) ≡ control_answer book.old day }
     ensures words { book.new ≡ words_after book.old (calls.control day) }
 {
     let first = passes::run_pass(book, day, Pass::First);
     let second = passes::run_pass(book, day, Pass::Second);
     passes::append_mark(book, day);
-    Controlled {
-        answer: 0,
+    Counts {
         first: first.parties,
         second: second.parties,
         cancelled: first.entries + second.entries,
@@ -47,18 +47,10 @@ fn run(book: &mut [u32], day: u32) -> Controlled
 }
 
 // Cancels the bilateral sales of detected parties and closes the day.
-pub fn control(book: &mut [u32], day: u32) -> Controlled
-    ensures answer { result ≡ control_answer book.old day }
+pub fn control(book: &mut [u32], day: u32) -> Result<Counts, Refusal>
+    ensures answer { controlled_of result ≡ control_answer book.old day }
     ensures words { book.new ≡ words_after book.old (calls.control day) }
 {
-    let cause = control_cause(book, day);
-    if cause != 0 {
-        return Controlled {
-            answer: cause,
-            first: 0,
-            second: 0,
-            cancelled: 0,
-        };
-    }
-    run(book, day)
+    check(book, day)?;
+    Ok(run(book, day))
 }

@@ -12,8 +12,9 @@ ghost use Rattle.control.specs.Passes.{cancelled_words, pass_of};
 
 use detection::Pass;
 use repeated_pairs::parties::Flags;
-use rules::layout::{BILATERAL, CANCELLED, ENTRY_WORDS, HEAD_WORDS, MARK, STANDING};
+use rules::layout::{BILATERAL, CANCELLED, MARK, STANDING};
 use rules::{Entry, Key};
+use words::Book;
 
 // The parties detected in a pass and the entries cancelled.
 #[derive(Clone, Copy)]
@@ -40,13 +41,13 @@ fn cancel(book: &mut [u32], day: u32, flags: &Flags) -> u32
     ensures cancelled { result ≡ count (is_to_cancel (flagged flags.now) day) (entries book.old) }
     ensures words { book.new ≡ cancelled_words (flagged flags.now) day book.old }
 {
-    let count = words::count_of(book) as usize;
+    let count = Book::known(book).count();
     let mut n = 0;
     for i in 0..count {
-        let e = words::read_at(book, HEAD_WORDS + ENTRY_WORDS * i);
+        let e = Book::known(book).entry(i);
         let cancelled = is_to_cancel(e, day, flags);
         if cancelled {
-            entry_stores::set_status(book, i, CANCELLED);
+            entry_stores::set_status(book, i as usize, CANCELLED);
         }
         n += u32::from(cancelled);
     }
@@ -59,7 +60,7 @@ fn pass_by_table(book: &mut [u32], day: u32, pass: Pass) -> Passed
     ensures counts { result ≡ pass_of (of_pass (is_second pass) book.old day) day book.old }
     ensures words { book.new ≡ cancelled_words (of_pass (is_second pass) book.old day) day book.old }
 {
-    let flags = detection::flag_parties(book, day, pass);
+    let flags = detection::flag_parties(&Book::known(book), day, pass);
     let parties = flags.count();
     let entries = cancel(book, day, &flags);
     Passed { parties, entries }
@@ -71,7 +72,7 @@ pub fn run_pass(book: &mut [u32], day: u32, pass: Pass) -> Passed
     ensures counts { result ≡ pass_of (of_pass (is_second pass) book.old day) day book.old }
     ensures words { book.new ≡ cancelled_words (of_pass (is_second pass) book.old day) day book.old }
 {
-    if empty_passes::has_nobody(book, day, pass) {
+    if empty_passes::has_nobody(&Book::known(book), day, pass) {
         return Passed {
             parties: 0,
             entries: 0,

@@ -12,24 +12,19 @@ use Rattle.numbers.proofs.TestLaws.{bool_cases}
 use Rattle.rules.specs.Entry.{party_ok, party_places}
 use Rattle.rules.specs.Words.{is_book, entries, count_of, coefficient_of, tolerance_of}
 use Rattle.rules.specs.Control.{detected_in}
-use Rattle.rules.proofs.WordLaws.{book-facts, within-true}
+use Rattle.rules.proofs.WordLaws.{within-true}
 use Rattle.cells.specs.Cells.{AtMost}
 use Rattle.cells.proofs.ScanLaws.{table_to}
 use Rattle.balance_formulas.specs.Bounded.{most_sum}
 use Rattle.repeated_pairs.specs.Flags.{flagged, all_flags}
-use Rattle.detection.specs.Tables.{table_cells, table_of, detected_among, checked, of_pass, Flaggable}
+use Rattle.detection.specs.Tables.{table_cells, table_of, detected_among, checked, of_pass}
 use Rattle.detection.proofs.BelowLaws.{no-party}
 use Rattle.detection.proofs.TableLaws.{day-limited, ahead-is}
 
 module _ (ws : List ℕ) (b : is_book ws ≡ true) (d : ℕ) where
-  table-within : AtMost most_sum (table_of d (entries ws))
+  pub table-within : AtMost most_sum (table_of d (entries ws))
   unfolding table_of entries
   table-within = table_to ws b (day-limited d) table_cells (count_of ws) (le_refl (count_of ws))
-
-  pub flaggable : (cells : List ℕ) → cells ≡ table_of d (entries ws) → Flaggable cells (coefficient_of ws) (tolerance_of ws)
-  flaggable cells e =
-      let f = book-facts ws b in
-      rw e (record { within = table-within; coefficient = f.coefficient; tolerance = f.tolerance })
 
   pub table-detects : (cells : List ℕ) (among : List Bool) → cells ≡ table_of d (entries ws) → detected_among cells (coefficient_of ws) (tolerance_of ws) among ≡ checked ws d among
   unfolding detected_among checked detected_in

@@ -1,14 +1,13 @@
 -- What the scan of a control makes of the entries: of each party what its day-ahead balance reads, and who is detected by it.
 -- Only the contracts of internal functions cite these; the laws tie them to rules/specs/Control.
-use Rattle.std.specs.Prelude.{Bool, true, not, cond, ◌&&◌, ◌||◌, List, [], ◌∷◌, ℕ, ◌+◌, ◌*◌, ◌≤◌, max, eqb, ℤ, get_or}
+use Rattle.std.specs.Prelude.{Bool, true, not, cond, ◌&&◌, ◌||◌, List, [], ◌∷◌, ℕ, ◌+◌, ◌*◌, max, eqb, ℤ, get_or}
 use Rattle.std.proofs.Math.IntN.{sub_ℕ}
 use Rattle.numbers.specs.Tests.{every}
 use Rattle.rules.specs.Entry.{Label, Record, is_export, bilateral, updated_program, standing, party_ok, last_party}
-use Rattle.rules.specs.Words.{entries, coefficient_of, tolerance_of, most_coefficient, most_tolerance}
+use Rattle.rules.specs.Words.{entries, coefficient_of, tolerance_of}
 use Rattle.rules.specs.Balance.{is_detected}
 use Rattle.rules.specs.Control.{Parties, detected_in, is_repeated_buyer}
-use Rattle.cells.specs.Cells.{Cells, one_if, filled, AtMost}
-use Rattle.balance_formulas.specs.Bounded.{most_sum}
+use Rattle.cells.specs.Cells.{Cells, one_if, filled}
 use Rattle.repeated_pairs.specs.Flags.{flagged}
 
 -- the largest number of a type
@@ -76,9 +75,3 @@ checked ws d among p = flagged among p && detected_in (coefficient_of ws) (toler
 -- the parties of a pass over a book: those detected, in the second pass among the buyers of repeated pairs
 unfoldable pub of_pass : Bool → List ℕ → ℕ → Parties
 of_pass second ws d p = cond second (is_repeated_buyer d (entries ws) p) true && detected_in (coefficient_of ws) (tolerance_of ws) d (entries ws) p
-
--- a table whose balances fit
-pub record Flaggable (cells : List ℕ) (R TM : ℕ) : Type 0 where
-  pub within : AtMost most_sum cells
-  pub coefficient : R ≤ most_coefficient
-  pub tolerance : TM ≤ most_tolerance

@@ -2,13 +2,13 @@
 #![tactic(auto)]
 
 ghost use Rattle.std.specs.Prelude.{◌≡◌, true};
-ghost use Rattle.rules.specs.Words.{is_book};
 ghost use Rattle.repeated_pairs.specs.Flags.{flagged};
 ghost use Rattle.detection.specs.Tables.{of_pass};
 ghost use Rattle.detection.specs.Passes.{is_second};
 
 use repeated_pairs::parties::Flags;
 use repeated_pairs::{ALL_WORDS, FEW_WORDS};
+use words::Book;
 
 pub mod sums;
 
@@ -21,8 +21,7 @@ pub enum Pass {
 
 // The second pass: the buyers of repeated pairs that are detected. The pairs are looked at by few bits first, and by all of
 // them only for buyers that are detected: most books have none, and all bits are 128,000 bytes to be cleared.
-fn flag_second(book: &[u32], day: u32) -> Flags
-    requires { is_book book.now ≡ true }
+fn flag_second(book: &Book, day: u32) -> Flags
     ensures { flagged result ≡ of_pass true book.now day }
 {
     let likely = repeated_pairs::buyers::<FEW_WORDS>(book, day, &Flags::all());
@@ -37,8 +36,7 @@ fn flag_second(book: &[u32], day: u32) -> Flags
 }
 
 // Flags the parties of a pass: those detected, in the second pass among the buyers of repeated pairs.
-pub fn flag_parties(book: &[u32], day: u32, pass: Pass) -> Flags
-    requires { is_book book.now ≡ true }
+pub fn flag_parties(book: &Book, day: u32, pass: Pass) -> Flags
     ensures { flagged result ≡ of_pass (is_second pass) book.now day }
 {
     match pass {

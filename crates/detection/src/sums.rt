@@ -2,18 +2,20 @@
 // by it. A caller meets each `requires`.
 ghost use Rattle.std.specs.Prelude.{◌≡◌, true, ◌≤◌, ℕ, List};
 ghost use Rattle.rules.specs.Entry.{key, legal, last_party, record_in};
-ghost use Rattle.rules.specs.Words.{is_book, entries, most_coefficient, most_tolerance};
+ghost use Rattle.rules.specs.Words.{is_book, entries};
 ghost use Rattle.rules.specs.Balance.{is_detected};
 ghost use Rattle.cells.specs.Cells.{added, blank, AtMost};
 ghost use Rattle.balance_formulas.specs.Bounded.{most_sum};
 ghost use Rattle.repeated_pairs.specs.Flags.{flagged};
-ghost use Rattle.detection.specs.Tables.{is_sale_type, is_read_type, last_type, side_of, is_read, table_cells, day_cells, table_of, ahead_at, Flaggable, detected_among, checked};
+ghost use Rattle.detection.specs.Tables.{is_sale_type, is_read_type, last_type, side_of, is_read, table_cells, day_cells, table_of, ahead_at, detected_among, checked};
 
+use balance_formulas::Tolerances;
 use repeated_pairs::parties::Flags;
 use rules::Entry;
 use rules::bounds::{LAST_PARTY, NUMBERS};
-use rules::layout::{BILATERAL, ENTRY_WORDS, HEAD_WORDS, STANDING};
+use rules::layout::{BILATERAL, STANDING};
 use std::marker::Model;
+use words::Book;
 
 // The cells of each number: S, C but for the next two, capacity tender and import notification.
 const PARTY_CELLS: usize = 4;
@@ -117,24 +119,21 @@ impl Table {
     }
 
     // One scan of the book fills the table.
-    fn fill(&mut self, book: &[u32], day: u32)
-        requires book_value { is_book book.now ≡ true }
-        requires table_value { self.old ≡ blank table_cells }
-        ensures { self.new ≡ table_of day (entries book.now) }
+    fn fill(&mut self, book: &Book, day: u32)
+        requires { self.old ≡ blank table_cells }
+        ensures table { self.new ≡ table_of day (entries book.now) }
+        ensures book { is_book book.now ≡ true }
     {
-        let count = words::count_of(book) as usize;
-        for i in 0..count {
-            let e = words::read_at(book, HEAD_WORDS + ENTRY_WORDS * i);
-            self.add_entry(e, day);
+        for i in 0..book.count() {
+            self.add_entry(book.entry(i), day);
         }
     }
 
     // Whether a party's day-ahead balance is detected: above zero. Without a sale it is not.
-    fn is_detected(&self, party: u32, coefficient: u32, tolerance: u32) -> bool
+    fn is_detected(&self, party: u32, tolerances: Tolerances) -> bool
         requires party_le_last_party { party ≤ last_party }
         requires at_most { AtMost most_sum self.now }
-        requires coefficient_le_most_coefficient { (coefficient ≤ most_coefficient) × (tolerance ≤ most_tolerance) }
-        ensures { result ≡ is_detected (ahead_at coefficient tolerance self.now party) }
+        ensures { result ≡ is_detected (ahead_at tolerances.coefficient tolerances.tolerance self.now party) }
     {
         let at = PARTY_CELLS * (party as usize);
         let sales = self.cells[at + SALES];
@@ -142,18 +141,18 @@ impl Table {
             return false;
         }
         let cover = self.cells[at + COVER] + self.cells[at + 2].max(self.cells[at + 3]);
-        position::detected(balance_formulas::balanced(sales, cover, coefficient, tolerance))
+        position::detected(tolerances.balanced(sales, cover))
     }
 
     // Flags the detected ones among some parties.
-    fn flag_detected(&self, coefficient: u32, tolerance: u32, among: &Flags) -> Flags
-        requires { Flaggable self.now coefficient tolerance }
-        ensures { flagged result ≡ detected_among self.now coefficient tolerance among.now }
+    fn flag_detected(&self, tolerances: Tolerances, among: &Flags) -> Flags
+        requires { AtMost most_sum self.now }
+        ensures { flagged result ≡ detected_among self.now tolerances.coefficient tolerances.tolerance among.now }
     {
         let mut flags = Flags::none();
         for p in 1..LAST_PARTY + 1 {
             if among.has(p) {
-                flags.put(p, self.is_detected(p, coefficient, tolerance));
+                flags.put(p, self.is_detected(p, tolerances));
             }
         }
         flags
@@ -161,17 +160,16 @@ impl Table {
 }
 
 // Flags the parties among some whose day-ahead balance of the day is detected.
-pub fn detect(book: &[u32], day: u32, among: &Flags) -> Flags
-    requires { is_book book.now ≡ true }
+pub fn detect(book: &Book, day: u32, among: &Flags) -> Flags
     ensures { flagged result ≡ checked book.now day among.now }
 {
     let mut table = Table {
         cells: [0u64; CELLS],
     };
     table.fill(book, day);
-    table.flag_detected(
-        words::coefficient_of(book),
-        words::tolerance_of(book),
-        among,
-    )
+    let tolerances = Tolerances {
+        coefficient: book.coefficient(),
+        tolerance: book.tolerance(),
+    };
+    table.flag_detected(tolerances, among)
 }

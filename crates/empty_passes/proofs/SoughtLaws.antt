@@ -19,15 +19,15 @@ use Rattle.rules.specs.Words.{is_book, entries, count_of, coefficient_of, tolera
 use Rattle.rules.specs.Balance.{day_ahead, counted, sum_of, bought_by, tally_of, sale_side, cover_side, balance_of, balance, is_detected}
 use Rattle.rules.specs.Control.{detected_in, is_repeated_buyer}
 use Rattle.rules.proofs.SumOrder.{for_tests}
-use Rattle.cells.proofs.ScanLaws.{read_at}
+use Rattle.rules.specs.Book.{entry_at}
 use Rattle.detection.specs.Tables.{is_sale_type, of_pass}
 use Rattle.detection.proofs.BelowLaws.{not-above}
 use Rattle.repeated_pairs.proofs.PairLaws.{any_none}
 use Rattle.empty_passes.specs.Sought.{nobody, is_cancelled_on, is_sale_on}
 
 -- entry number i of a book
-pub entry-read : (ws : List ℕ) (b : is_book ws ≡ true) (i : ℕ) (r : Record) → i < length (entries ws) → get_or (entries ws) i r ≡ read_at ws i
-unfolding entries
+pub entry-read : (ws : List ℕ) (b : is_book ws ≡ true) (i : ℕ) (r : Record) → i < length (entries ws) → get_or (entries ws) i r ≡ entry_at ws i
+unfolding entries entry_at
 entry-read ws b i r h =
     rw (← drop-drop (5 * i) 3 ws) (read_at_lem (count_of ws) (drop 3 ws) i r (omega (arith, (book-facts ws b).count)))
 

@@ -3,14 +3,15 @@
 
 ghost use Rattle.std.specs.Prelude.{◌≡◌, true, false, All};
 ghost use Rattle.rules.specs.Entry.{record_in, entry_of};
-ghost use Rattle.rules.specs.Words.{is_book, entries};
+ghost use Rattle.rules.specs.Words.{entries};
 ghost use Rattle.detection.specs.Tables.{of_pass};
 ghost use Rattle.detection.specs.Passes.{is_second};
 ghost use Rattle.empty_passes.specs.Sought.{nobody, is_cancelled_on, is_sale_on};
 
 use detection::{Pass, sums};
 use rules::Entry;
-use rules::layout::{BILATERAL, CANCELLED, ENTRY_WORDS, HEAD_WORDS, STANDING};
+use rules::layout::{BILATERAL, CANCELLED, STANDING};
+use words::Book;
 
 // A cancelled entry of the day.
 fn is_cancelled_on(e: Entry, day: u32) -> bool
@@ -30,15 +31,12 @@ fn is_sale_on(e: Entry, day: u32) -> bool
 }
 
 // Whether the book has an entry of which a test holds: false only where it has none.
-fn has_entry<F: Fn(Entry) -> bool>(book: &[u32], is_sought: F) -> bool
-    requires book_value { is_book book.now ≡ true }
-    requires callable { F.IsAlwaysCallable is_sought }
+fn has_entry<F: Fn(Entry) -> bool>(book: &Book, is_sought: F) -> bool
+    requires { F.IsAlwaysCallable is_sought }
     ensures { result ≡ false → All (λ r. F.post is_sought (entry_of r) false) (entries book.now) }
 {
-    let count = words::count_of(book) as usize;
-    for i in 0..count {
-        let e = words::read_at(book, HEAD_WORDS + ENTRY_WORDS * i);
-        if is_sought(e) {
+    for i in 0..book.count() {
+        if is_sought(book.entry(i)) {
             return true;
         }
     }
@@ -47,8 +45,7 @@ fn has_entry<F: Fn(Entry) -> bool>(book: &[u32], is_sought: F) -> bool
 
 // Whether a pass has no party: true only where it has none.
 // Without a sale of the day nobody is detected, and without a cancelled entry of the day no pair is repeated.
-pub fn has_nobody(book: &[u32], day: u32, pass: Pass) -> bool
-    requires { is_book book.now ≡ true }
+pub fn has_nobody(book: &Book, day: u32, pass: Pass) -> bool
     ensures { result ≡ true → of_pass (is_second pass) book.now day ≡ nobody }
 {
     if !has_entry(book, |e| is_sale_on(e, day)) {

@@ -1,5 +1,5 @@
 -- The lines of a month report as a table: what an entry adds, and each figure the sum of its day or month and type. Assumes nothing.
-use mathlib.Core.Path.{◌≡◌, refl, sym, ap, ◌∙◌}
+use mathlib.Core.Path.{◌≡◌, sym, ap, ◌∙◌}
 use mathlib.Core.Logic.{◌⊎◌, inl, inr}
 use mathlib.Core.Bool.{Bool, true, false, cond, true≢false}
 use mathlib.Core.List.{List, [], ◌∷◌}
@@ -9,7 +9,6 @@ use native.Mathlib.Omega.{arith}
 use lib.Dec.{eqb, leb, ltb}
 use lib.ListN.{length, get_or}
 use lib.Seq.{set-get_or, set_out, get_or-set_same, ext_get_or}
-use mir.Val.{bool_byte}
 use borrow.Author.Tests.{eqb-true, eqb-false, leb-true, ltb-true, eq-eqb, ne_eqb, le-leb, lt-ltb}
 use Rattle.numbers.specs.Sums.{total}
 use Rattle.numbers.specs.Tests.{every, any}
@@ -17,7 +16,7 @@ use Rattle.numbers.proofs.TestLaws.{bool_cases, below-or-above, every_holds, hol
 use Rattle.numbers.proofs.SumLaws.{cond-limit, total-none}
 use Rattle.calendar.specs.Calendar.{month_start, month_length}
 use Rattle.calendar.proofs.MonthLaws.{month-length}
-use Rattle.rules.specs.Entry.{Label, Record, key, is_type, updated_program, standing, legal, most_money}
+use Rattle.rules.specs.Entry.{Label, Record, key, is_type, standing, legal, most_money}
 use Rattle.rules.specs.Words.{word}
 use Rattle.rules.specs.MonthReport.{line_sums, line_place, report_figures, reported, day_sum, report_lines}
 use Rattle.rules.proofs.WordLaws.{type-range, legal-bounds}
@@ -28,23 +27,6 @@ use Rattle.words.proofs.BookCode.{IsRead}
 use Rattle.cells.specs.Cells.{add_to, add_to_each, added, goes_to, apart, Limited, AtMost}
 use Rattle.cells.proofs.CellLaws.{same_test, to-first, to-later, to-either, to_none, add-other, cell-tested, length-filled}
 use Rattle.month_report.specs.Lines.{in_month, words_count, day_figure, total_figure, report_cells, lines_of}
-
--- a number, or 0, by multiplication
-pub times-if : (test : Bool) (x : ℕ) → bool_byte test * x ≡ cond test x 0
-times-if true x = omega arith
-times-if false x = omega arith
-
-pub times-less : (test : Bool) (x y : ℕ) → (test ≡ true → y ≤ x) → (bool_byte test * y ≤ bool_byte test * x) × (bool_byte test * x - bool_byte test * y ≡ cond test (x - y) 0)
-times-less true x y h = omega (arith, h refl)
-times-less false x y h = omega arith
-
--- a type's place: one less, and of type 22 two
-pub place-is-less : (t : ℕ) → 1 ≤ t → (bool_byte (eqb t updated_program) ≤ t - 1) × (t - 1 - bool_byte (eqb t updated_program) ≡ line_place t)
-place-is-less t h =
-    elim (bool_cases (eqb t updated_program)) [
-      | inl e ↦ rw e (omega (arith, eqb-true t updated_program e))
-      | inr e ↦ rw e (omega arith)
-    ]
 
 -- an entry of the month, as facts
 record InMonth (first days : ℕ) (l : Label) : Type 0 where
@@ -88,7 +70,7 @@ add_none table i = rw (add-zero (get_or table i 0)) (set-get_or table i 0)
 pub record Taken (first days b w : ℕ) (r : Record) (counts : Bool) (i k x : ℕ) : Type 0 where
   pub counts-is : counts ≡ words_count (word 2 first) days b w
   pub line-is : i ≡ cond counts (b - word 2 first) 0
-  pub place_is : k ≡ line_place (w % 256)
+  pub place_is : k ≡ line_place (key r).type
   pub amount-is : x ≡ cond counts r.amount 0
 
 pub record Small (i k x : ℕ) : Type 0 where
@@ -96,20 +78,16 @@ pub record Small (i k x : ℕ) : Type 0 where
   pub place : k < line_sums
   pub amount : x ≤ most_money
 
+-- its type has a place in a line
+module _ (r : Record) (l : legal r ≡ true) where
+  pub type-in : (1 ≤ (key r).type) × ((key r).type ≤ 22)
+  type-in = elim (legal-cases r l) [ inl h ↦ omega (arith, type-range (key r).type h.0) | inr h ↦ omega arith ]
+
+  place_in : line_place (key r).type < line_sums
+  place_in = elim (legal-cases r l) [ inl h ↦ (place_of line-places (key r).type h.0).below | inr h ↦ rw h.0 (omega arith) ]
+
 -- an entry by its words
 module _ (first days : ℕ) {a b w : ℕ} {r : Record} (e : IsRead a b w r) (l : legal r ≡ true) where
-  type-is : w % 256 ≡ (key r).type
-  type-is = omega arith
-
-  pub type-in : (1 ≤ w % 256) × (w % 256 ≤ 22)
-  type-in = rw type-is (elim (legal-cases r l) [ inl h ↦ omega (arith, type-range (key r).type h.0) | inr h ↦ omega arith ])
-
-  place_in : line_place (w % 256) < line_sums
-  place_in = rw type-is (elim (legal-cases r l) [ inl h ↦ (place_of line-places (key r).type h.0).below | inr h ↦ rw h.0 (omega arith) ])
-
-  pub line-in : {counts : Bool} → counts ≡ words_count (word 2 first) days b w → counts ≡ true → word 2 first ≤ b
-  line-in s q = (words-facts (word 2 first) days b w (sym s ∙ q)).0
-
   same-month : is_type (key r).type ≡ true → words_count (word 2 first) days b w ≡ in_month first days r.label
   same-month t = same_test there back
     where
@@ -138,7 +116,7 @@ module _ (first days : ℕ) {a b w : ℕ} {r : Record} (e : IsRead a b w r) (l :
         cond-limit counts (λ q. omega (arith, words-facts (word 2 first) days b w (sym t.counts-is ∙ q))) (λ q. omega arith) in
         record {
           line = omega (arith, t.line-is, last);
-          place = rw t.place_is place_in;
+          place = rw t.place_is (place_in r l);
           amount = rw t.amount-is (cond-limit counts (λ q. (legal-bounds r l).amount) (λ q. omega arith));
         }
 
@@ -153,7 +131,7 @@ module _ (first days : ℕ) {a b w : ℕ} {r : Record} (e : IsRead a b w r) (l :
         counted : is_type (key r).type ≡ true → counts ≡ true → add_to (add_to lines (line_sums * i + k) x) (line_sums * days + k) x ≡ add_to_each lines (report_cells first days r.label) r.amount
         counted y q =
             let d : b - word 2 first ≡ (key r).day - first = omega arith in
-            rw (cells_in first days r.label (sym (t.counts-is ∙ same-month y) ∙ q), t.line-is, t.place_is, t.amount-is, q, type-is, d)
+            rw (cells_in first days r.label (sym (t.counts-is ∙ same-month y) ∙ q), t.line-is, t.place_is, t.amount-is, q, d)
 
         none : in_month first days r.label ≡ false → x ≡ 0 → add_to (add_to lines (line_sums * i + k) x) (line_sums * days + k) x ≡ add_to_each lines (report_cells first days r.label) r.amount
         none m z = rw (z, cells_out first days r.label m, add_none lines _, add_none lines _)

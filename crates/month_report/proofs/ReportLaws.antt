@@ -8,54 +8,50 @@ use native.Mathlib.Omega.{arith}
 use borrow.Author.Tests.{le-ltb, lt-ltb}
 use Rattle.calendar.specs.Calendar.{months, days, month_length, month_start}
 use Rattle.calendar.proofs.MonthLaws.{month-length, start-step, start-mono, start-end}
-use Rattle.rules.specs.Refusals.{not_a_book, bad_figure}
+use Rattle.std.specs.Prelude.{Err}
+use Rattle.rules.specs.declared.refusal.Refusal.TheVariants.{NotABook, BadFigure}
 use Rattle.rules.specs.Words.{is_book, entries}
 use Rattle.rules.specs.MonthReport.{report_figures, month_report_cause, report_of, refused_report, month_report}
 use Rattle.rules.specs.declared.MonthReport.{MonthReport}
 use Rattle.cells.specs.Cells.{blank}
-use Rattle.month_report.specs.declared.lent.Head.{Head}
-use Rattle.month_report.specs.Heads.{head_of}
+use Rattle.month_report.specs.Reports.{IsReported}
 use Rattle.month_report.specs.Lines.{lines_of}
 use Rattle.month_report.proofs.LineLaws.{report-lines}
 
--- the days of a month
-pub record MonthDays (m first next : ℕ) : Type 0 where
+-- from the first day of a month to that of the next
+pub record Span (m first next : ℕ) : Type 0 where
   pub in_order : first ≤ next
   pub last : next ≤ days
   pub length-is : next - first ≡ month_length m
   pub few : next - first ≤ 31
 
-pub month-days : (m : ℕ) {first next : ℕ} → m < months → first ≡ month_start m → next ≡ month_start (m + 1) → MonthDays m first next
+pub month-days : (m : ℕ) {first next : ℕ} → m < months → first ≡ month_start m → next ≡ month_start (m + 1) → Span m first next
 month-days m h e f =
     let g = f ∙ ap month_start (add-one m) ∙ start-step m in
     omega (arith, month-length m, rw start-end at (start-mono (m + 1) months (omega arith)))
 
--- a report in two parts: its lines, and the rest
-abbrev pub Parts : Head → List ℕ → MonthReport → Type 0
-Parts h lines r = (h ≡ head_of r) × (lines ≡ r.lines)
+-- the report after a refusal
+pub refusing : {lent report : MonthReport} {n k : ℕ} → (lent ≡ refused_report 0) × (report ≡ refused_report k) → n ≡ k →
+    ◌≡◌ {A = MonthReport} (record { answer = n; month = lent.month; first_day = lent.first_day; days = lent.days; lines = lent.lines }) report
+unfolding refused_report
+refusing p e = rw (p.0, p.1, e)
 
-pub joined : (r : MonthReport) {h : Head} {lines : List ℕ} → Parts h lines r →
-    ◌≡◌ {A = MonthReport} (record { answer = h.answer; month = h.month; first_day = h.first_day; days = h.days; lines = lines }) r
-unfolding head_of
-joined r p = rw (p.0, p.1)
-
--- a refused one leaves the lines zero
-refused : (cause : ℕ) {h : Head} {lines : List ℕ} → h ≡ head_of (refused_report cause) → lines ≡ blank report_figures → Parts h lines (refused_report cause)
-unfolding refused_report blank
-refused cause q l = (q, l)
-
-module _ (ws : List ℕ) (m : ℕ) where
-  pub no-book : {h : Head} {lines : List ℕ} → is_book ws ≡ false → h ≡ head_of (refused_report not_a_book) → lines ≡ blank report_figures → Parts h lines (month_report ws m)
+module _ (ws : List ℕ) (m : ℕ) {lent : MonthReport} (q : lent ≡ refused_report 0) where
+  pub no-book : is_book ws ≡ false → IsReported (Err NotABook) lent (month_report ws m)
   unfolding month_report month_report_cause
-  no-book e q l = rw e (refused not_a_book q l)
+  no-book e = rw e (q, refl)
 
-  pub no-month : {h : Head} {lines : List ℕ} → is_book ws ≡ true → months ≤ m → h ≡ head_of (refused_report bad_figure) → lines ≡ blank report_figures → Parts h lines (month_report ws m)
+  pub no-month : is_book ws ≡ true → months ≤ m → IsReported (Err BadFigure) lent (month_report ws m)
   unfolding month_report month_report_cause
-  no-month e l q z = rw (e, le-ltb m months l) (refused bad_figure q z)
+  no-month e l = rw (e, le-ltb m months l) (q, refl)
 
-  pub done : {first next : ℕ} {lines : List ℕ} → is_book ws ≡ true → m < months → first ≡ month_start m → next ≡ month_start (m + 1) → lines ≡ lines_of first (next - first) (entries ws) →
-      Parts (record { answer = 0; month = m; first_day = first; days = next - first }) lines (month_report ws m)
-  unfolding head_of month_report month_report_cause report_of
+  pub none-before : lent.lines ≡ blank report_figures
+  unfolding refused_report blank
+  none-before = ap (λ r. r.lines) q
+
+  pub done : {first count : ℕ} {lines : List ℕ} → is_book ws ≡ true → m < months → first ≡ month_start m → count ≡ month_length m → lines ≡ lines_of first count (entries ws) →
+      ◌≡◌ {A = MonthReport} (record { answer = lent.answer; month = m; first_day = first; days = count; lines = lines }) (month_report ws m)
+  unfolding refused_report month_report month_report_cause report_of
   done e b f n l =
-      let d = (month-days m b f n).length-is in
-      rw (e, lt-ltb m months b, l, d, f) (refl, report-lines (entries ws) m)
+      let a : lent.answer ≡ 0 = ap (λ r. r.answer) q in
+      rw (a, e, lt-ltb m months b, l, f, n) (ap (λ ls. record { answer = 0; month = m; first_day = month_start m; days = month_length m; lines = ls }) (report-lines (entries ws) m))

@@ -1,56 +1,47 @@
-// Internal: a month report whose lines go into a lent array, so that its 5,392 bytes are copied once and not by each caller.
+// Internal: a month report into a lent one, so that its 5,392 bytes are copied once and not by each caller.
 // A caller meets each `requires`.
 ghost use Rattle.std.specs.Prelude.{◌≡◌};
-ghost use Rattle.rules.specs.MonthReport.{report_figures, refused_report, month_report};
-ghost use Rattle.cells.specs.Cells.{blank};
-ghost use Rattle.month_report.specs.Heads.{head_of};
+ghost use Rattle.rules.specs.Refusals.{answer_of};
+ghost use Rattle.rules.specs.MonthReport.{refused_report, month_report_cause, month_report};
+ghost use Rattle.month_report.specs.Reports.{IsReported};
 
+use crate::days::MonthDays;
 use crate::lines;
-use calendar::rule;
-use rules::REPORT_FIGURES;
-use rules::bounds::MONTHS;
-use rules::causes::{BAD_FIGURE, NOT_A_BOOK};
+use rules::{MonthReport, REPORT_FIGURES, Refusal};
+use words::Book;
 
-// A report without its lines.
-#[derive(Clone, Copy)]
-pub struct Head {
-    pub answer: u32,
-    pub month: u32,
-    pub first_day: u32,
-    pub days: u32,
-}
-
-fn refused_head(cause: u32) -> Head
-    ensures { result ≡ head_of (refused_report cause) }
+// A report without a figure, to be lent.
+pub fn no_report() -> MonthReport
+    ensures { result ≡ refused_report 0 }
 {
-    Head {
-        answer: cause,
+    MonthReport {
+        answer: 0,
         month: 0,
         first_day: 0,
         days: 0,
+        lines: [0; REPORT_FIGURES],
     }
 }
 
-// The lines are zero before, and stay so where the report is refused.
-pub fn report_into(book: &[u32], month: u32, lines: &mut [u64; REPORT_FIGURES]) -> Head
-    requires { lines.old ≡ blank report_figures }
-    ensures head { result ≡ head_of (month_report book.now month) }
-    ensures lines { lines.new ≡ (month_report book.now month).lines }
+// Why a book's month cannot be reported; else its report. A refused one leaves the report as it was.
+fn fill(book: &[u32], month: u32, report: &mut MonthReport) -> Result<(), Refusal>
+    requires { report.old ≡ refused_report 0 }
+    ensures { IsReported result report.new (month_report book.now month) }
 {
-    if !book::is_book(book) {
-        return refused_head(NOT_A_BOOK);
-    }
-    if MONTHS <= month {
-        return refused_head(BAD_FIGURE);
-    }
-    let first = rule::month_start(month) as u32;
-    let next = rule::month_start(month + 1) as u32;
-    let days = next - first;
-    lines::fill(book, first, days, lines);
-    Head {
-        answer: 0,
-        month,
-        first_day: first,
-        days,
+    let book = Book::of(book)?;
+    let days = MonthDays::of(month)?;
+    lines::fill(&book, days, &mut report.lines);
+    report.month = month;
+    report.first_day = days.first;
+    report.days = days.count;
+    Ok(())
+}
+
+pub fn report_into(book: &[u32], month: u32, report: &mut MonthReport)
+    requires { report.old ≡ refused_report 0 }
+    ensures { report.new ≡ month_report book.now month }
+{
+    if let Err(refusal) = fill(book, month, report) {
+        report.answer = u32::from(refusal);
     }
 }

@@ -4,8 +4,9 @@
 ghost use Rattle.std.specs.Prelude.{◌≡◌};
 ghost use Rattle.rules.specs.MonthReport.{month_report};
 
-use rules::{MonthReport, REPORT_FIGURES};
+use rules::MonthReport;
 
+mod days;
 pub mod lent;
 mod lines;
 
@@ -13,13 +14,7 @@ mod lines;
 pub fn month_report(book: &[u32], month: u32) -> MonthReport
     ensures { result ≡ month_report book.now month }
 {
-    let mut lines = [0u64; REPORT_FIGURES];
-    let head = lent::report_into(book, month, &mut lines);
-    MonthReport {
-        answer: head.answer,
-        month: head.month,
-        first_day: head.first_day,
-        days: head.days,
-        lines,
-    }
+    let mut report = lent::no_report();
+    lent::report_into(book, month, &mut report);
+    report
 }

@@ -66,7 +66,8 @@ fn mark_buyers<const WORDS: usize>(
 #[inline(never)]
 pub fn buyers<const WORDS: usize>(book: &Book, day: u32, among: &Flags) -> Flags
     requires { WORDS ≡ bit_words (is_few WORDS) }
-    ensures { flagged result ≡ likely_among (is_few WORDS) day (entries book.now) among.now }
+    ensures flags { flagged result ≡ likely_among (is_few WORDS) day (entries book.now) among.now }
+    ensures book { is_book book.now ≡ true }
 {
     let mut pairs = PairBits::<WORDS> {
         words: [0u64; WORDS],

@@ -1,23 +1,22 @@
 -- `detection::sums::detect` meets its contract. Assumes nothing.
 use mathlib.Core.Path.{refl, ◌∙◌}
-use Rattle.words.proofs.BookCode.{book-long}
+use Rattle.rules.proofs.WordLaws.{book-facts}
 use Rattle.cells.specs.Cells.{blank}
-use Rattle.detection.proofs.DetectLaws.{flaggable, table-detects}
+use Rattle.detection.proofs.DetectLaws.{table-within, table-detects}
 use Rattle.detection.proofs.sums.detect.Goals as goal
 
-pub fill-requires-clause-table_value : goal.fill-requires-clause-table_value
+pub fill-requires : goal.fill-requires
 unfolding blank
-fill-requires-clause-table_value c = refl
+fill-requires c = refl
 
-pub coefficient_of-requires : goal.coefficient_of-requires
-coefficient_of-requires c = search book-long
-
-pub tolerance_of-requires : goal.tolerance_of-requires
-tolerance_of-requires c = search book-long
+pub invariant_of-tolerances : goal.invariant_of-tolerances
+invariant_of-tolerances c =
+    let f = book-facts c.args.book.now c.fill.ensures.book in
+    record { coefficient_within = rw c.coefficient.ensures f.coefficient; tolerance_within = rw c.tolerance.ensures f.tolerance }
 
 pub flag_detected-requires : goal.flag_detected-requires
-flag_detected-requires c = rw (c.coefficient_of.ensures, c.tolerance_of.ensures) (search flaggable)
+flag_detected-requires c = rw c.fill.ensures.table (table-within c.args.book.now c.fill.ensures.book c.args.day)
 
 pub returns : goal.returns
 returns c =
-    c.flag_detected.ensures ∙ rw (c.coefficient_of.ensures, c.tolerance_of.ensures) (search table-detects)
+    c.flag_detected.ensures ∙ rw (c.coefficient.ensures, c.tolerance.ensures) (search table-detects)

@@ -1,35 +1,26 @@
-use Rattle.rules.proofs.WordLaws.{book-facts}
-use Rattle.words.proofs.BookCode.{book-entry}
+use mathlib.Core.Path.{refl, sym, ◌∙◌}
+use Rattle.words.proofs.BookCode.{book-entry, ok-told}
 use Rattle.cells.specs.Cells.{filled}
-use Rattle.cells.proofs.ScanLaws.{scan-start, scan-more, scan-done, scan-within, scan-below}
+use Rattle.cells.proofs.ScanLaws.{scan-start, scan-words, scan-all, scan-below}
 use Rattle.month_report.specs.Lines.{lines_of}
 use Rattle.month_report.proofs.LineLaws.{report-limited}
 use Rattle.month_report.proofs.lines.fill.Goals as goal
 
-pub count_of-count-requires : goal.count_of-count-requires
-count_of-count-requires c = (book-facts c.args.book.now c.requires.book_value).long
-
 pub loop-i-init : goal.loop-i-init
-loop-i-init c = scan-start c.requires.lines_value
+loop-i-init c = scan-start c.requires
 
-pub add_entry-requires-clause-at_in_bounds : goal.add_entry-requires-clause-at_in_bounds
-add_entry-requires-clause-at_in_bounds c =
-    rw c.place_of.ensures (scan-within c.args.book.now c.requires.book_value c.loop-i.i c.count_of-count.ensures c.loop-i-test.true)
-
-pub add_entry-requires-clause-book_value : goal.add_entry-requires-clause-book_value
-add_entry-requires-clause-book_value c =
-    let e = c.count_of-count.ensures in
-    let below = c.loop-i-test.true in
-    rw c.place_of.ensures (book-entry c.args.book.now c.requires.book_value c.loop-i.i (rw e at below)).ok
+pub add_entry-requires-clause-e_value : goal.add_entry-requires-clause-e_value
+add_entry-requires-clause-e_value c =
+    let b = c.count-i-end.ensures in
+    sym (ok-told c.args.book.now c.loop-i.i refl c.entry_words.ensures.words refl) ∙ (book-entry _ b.book _ (rw b.count at c.loop-i-test.true)).ok
 
 pub add_entry-requires-clause-at_most : goal.add_entry-requires-clause-at_most
 add_entry-requires-clause-at_most c =
-    scan-below c.args.book.now c.requires.book_value 672 (report-limited c.args.first c.args.days) c.count_of-count.ensures c.loop-i.invariant
+    scan-below c.args.book.now c.count-i-end.ensures.book 672 (report-limited c.args.month.first c.args.month.count) refl c.loop-i.invariant
 
 pub loop-i-preserved : goal.loop-i-preserved
-loop-i-preserved c =
-    scan-more c.loop-i-test.true c.loop-i.invariant (rw c.place_of.ensures at c.add_entry.ensures)
+loop-i-preserved c = scan-words c.count-i-end.ensures.count c.loop-i-test.true c.entry_words.ensures.entry c.loop-i.invariant c.add_entry.ensures
 
 pub returns : goal.returns
 unfolding lines_of filled
-returns c = scan-done c.count_of-count.ensures c.loop-i-test.false c.loop-i.invariant
+returns c = scan-all c.count-i-end.ensures.count c.loop-i-test.false c.loop-i.invariant

@@ -5,7 +5,7 @@ use Rattle.detection.proofs.sums.Table.flag_detected.Goals as goal
 use Rattle.detection.proofs.sums.Table.flag_detected.Goals.{then-has, else-has}
 
 pub loop-p-init : goal.loop-p-init
-loop-p-init c = let a = c.args in below-start _ _ c.none-flags.ensures (detected-none a.self.now a.coefficient a.tolerance a.among.now)
+loop-p-init c = let a = c.args in below-start _ _ c.none-flags.ensures (detected-none a.self.now a.tolerances.coefficient a.tolerances.tolerance a.among.now)
 
 pub loop-p-preserved : goal.loop-p-preserved
 loop-p-preserved c =
@@ -14,12 +14,12 @@ loop-p-preserved c =
     elim c.if-has.branch [
       | then-has w ↦
           rw w.flags-is (rw w.put.ensures (below_set _ c.loop-p.p c.loop-p.flags b w.is_detected.result (omega arith)
-          (detected-asked a.self.now a.coefficient a.tolerance a.among.now c.loop-p.p w.is_detected.result (rw c.has.ensures at w.if-has.true) (omega arith) (omega arith) w.is_detected.ensures)))
+          (detected-asked a.self.now a.tolerances.coefficient a.tolerances.tolerance a.among.now c.loop-p.p w.is_detected.result (rw c.has.ensures at w.if-has.true) (omega arith) (omega arith) w.is_detected.ensures)))
       | else-has w ↦
-          rw w.flags-is (below-skip _ c.loop-p.p c.loop-p.flags b (detected-not_asked a.self.now a.coefficient a.tolerance a.among.now c.loop-p.p (rw c.has.ensures at w.if-has.false)))
+          rw w.flags-is (below-skip _ c.loop-p.p c.loop-p.flags b (detected-not_asked a.self.now a.tolerances.coefficient a.tolerances.tolerance a.among.now c.loop-p.p (rw c.has.ensures at w.if-has.false)))
     ]
 
 pub returns : goal.returns
 returns c =
     let a = c.args in
-    below_end _ c.loop-p.p c.loop-p.flags c.loop-p.invariant c.loop-p-test.false (detected-past a.self.now a.coefficient a.tolerance a.among.now)
+    below_end _ c.loop-p.p c.loop-p.flags c.loop-p.invariant c.loop-p-test.false (detected-past a.self.now a.tolerances.coefficient a.tolerances.tolerance a.among.now)

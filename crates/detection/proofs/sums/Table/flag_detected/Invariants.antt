@@ -4,4 +4,4 @@ use Rattle.detection.specs.Tables.{detected_among}
 use Rattle.detection.proofs.sums.Table.flag_detected.Given as goal
 
 abbrev pub invariant-loop-p : goal.invariant-loop-p
-invariant-loop-p l = Below l.p (detected_among l.self l.coefficient l.tolerance l.among) l.flags
+invariant-loop-p l = Below l.p (detected_among l.self l.tolerances.coefficient l.tolerances.tolerance l.among) l.flags
