@@ -14,6 +14,7 @@ ghost use Rattle.rules.specs.MonthReport.{month_report};
 ghost use Rattle.word_bytes.specs.Bytes.{yes_no};
 ghost use Rattle.collateral_case.specs.Cases.{case_of};
 
+use rules::answers::answer_of;
 use rules::{
     BalanceAnswer, Collateral, Controlled, Counted, EntryRead, FileRead, Key, MonthAnswer,
     MonthReport, Posted, TallyAnswer,
@@ -24,7 +25,7 @@ use rules::{
 pub extern "C" fn fanzsoreb_is_book_words(book: &[u32]) -> u32
     ensures { result ≡ yes_no (is_book book.now) }
 {
-    book::is_book(book) as u32
+    book::is_book(book).into()
 }
 
 // Opens a book with coefficient R in hundredths and tolerance amount TM in kWh.
@@ -33,7 +34,7 @@ pub extern "C" fn fanzsoreb_open_words(book: &mut [u32], coefficient: u32, toler
     ensures answer { result ≡ open_cause (length book.old) coefficient tolerance }
     ensures words { book.new ≡ open_words book.old coefficient tolerance }
 {
-    opening::open(book, coefficient, tolerance)
+    answer_of(opening::open(book, coefficient, tolerance))
 }
 
 // Opens a book with the figures of an opening that names none.
@@ -42,7 +43,7 @@ pub extern "C" fn fanzsoreb_open_default_words(book: &mut [u32]) -> u32
     ensures answer { result ≡ open_default_cause (length book.old) }
     ensures words { book.new ≡ open_default_words book.old }
 {
-    opening::open_default(book)
+    answer_of(opening::open_default(book))
 }
 
 // Appends one standing entry and answers its number, counted from 0.
@@ -64,7 +65,7 @@ pub extern "C" fn fanzsoreb_post_words(
         entry_type,
         counterparty,
     };
-    book::post(book, key, amount)
+    book::post(book, key, amount).into()
 }
 
 // Gives the entry of this number status 1.
@@ -73,7 +74,7 @@ pub extern "C" fn fanzsoreb_withdraw_words(book: &mut [u32], number: u32) -> u32
     ensures answer { result ≡ cause_of book.old (calls.withdraw number) }
     ensures words { book.new ≡ words_after book.old (calls.withdraw number) }
 {
-    book::withdraw(book, number)
+    answer_of(book::withdraw(book, number))
 }
 
 // The number of entries, of every status.
@@ -81,7 +82,7 @@ pub extern "C" fn fanzsoreb_withdraw_words(book: &mut [u32], number: u32) -> u32
 pub extern "C" fn fanzsoreb_count_words(book: &[u32]) -> Counted
     ensures { result ≡ count_answer book.now }
 {
-    book::count(book)
+    book::count(book).into()
 }
 
 // One entry by its number.
@@ -89,7 +90,7 @@ pub extern "C" fn fanzsoreb_count_words(book: &[u32]) -> Counted
 pub extern "C" fn fanzsoreb_entry_words(book: &[u32], number: u32) -> EntryRead
     ensures { result ≡ read_answer book.now number }
 {
-    book::entry(book, number)
+    book::entry(book, number).into()
 }
 
 // The seventeen sums of a party's day and B.
@@ -97,7 +98,7 @@ pub extern "C" fn fanzsoreb_entry_words(book: &[u32], number: u32) -> EntryRead
 pub extern "C" fn fanzsoreb_tally_words(book: &[u32], party: u32, day: u32) -> TallyAnswer
     ensures { result ≡ tally_answer book.now party day }
 {
-    position::tally(book, party, day)
+    position::tally(book, party, day).into()
 }
 
 // The day-ahead balance, in hundredths of a kWh (document 004, Article 7).
@@ -105,7 +106,7 @@ pub extern "C" fn fanzsoreb_tally_words(book: &[u32], party: u32, day: u32) -> T
 pub extern "C" fn fanzsoreb_day_ahead_words(book: &[u32], party: u32, day: u32) -> BalanceAnswer
     ensures { result ≡ balance_answer day_ahead book.now party day }
 {
-    position::day_ahead(book, party, day)
+    position::day_ahead(book, party, day).into()
 }
 
 // The delivery balance, in hundredths of a kWh (document 004, Article 5).
@@ -113,7 +114,7 @@ pub extern "C" fn fanzsoreb_day_ahead_words(book: &[u32], party: u32, day: u32) 
 pub extern "C" fn fanzsoreb_delivery_words(book: &[u32], party: u32, day: u32) -> BalanceAnswer
     ensures { result ≡ balance_answer delivery book.now party day }
 {
-    position::delivery(book, party, day)
+    position::delivery(book, party, day).into()
 }
 
 // Posts the lines of a file: all of them or none.
@@ -122,7 +123,7 @@ pub extern "C" fn fanzsoreb_read_file_words(book: &mut [u32], file: &[u8]) -> Fi
     ensures answer { result ≡ file_answer book.old file.now }
     ensures words { book.new ≡ words_after book.old (calls.file file.now) }
 {
-    dayfile::read_file(book, file)
+    dayfile::read_file(book, file).into()
 }
 
 // Cancels the bilateral sales of detected parties and closes the day.
@@ -131,7 +132,7 @@ pub extern "C" fn fanzsoreb_control_words(book: &mut [u32], day: u32) -> Control
     ensures answer { result ≡ control_answer book.old day }
     ensures words { book.new ≡ words_after book.old (calls.control day) }
 {
-    control::control(book, day)
+    control::control(book, day).into()
 }
 
 // AOSMF and AEDM of a group's month, out of three tables.
@@ -145,7 +146,7 @@ pub extern "C" fn fanzsoreb_month_words(
 ) -> MonthAnswer
     ensures { result ≡ month_answer (tables_of prices.now imbalance.now rows dm.now group) }
 {
-    month_step::month_step(prices, imbalance, rows, dm, group)
+    month_step::month_step(prices, imbalance, rows, dm, group).into()
 }
 
 // Each item of collateral and the total of a case.
@@ -197,7 +198,7 @@ pub extern "C" fn fanzsoreb_collateral_words(
         score,
         best,
     );
-    collateral::collateral(book, case)
+    collateral::collateral(book, case).into()
 }
 
 // All parties' sums of each day of a month and type, and the month's totals.

@@ -1,5 +1,6 @@
 // The answers of calls in the structs that C has, out of results.
 ghost use Rattle.std.specs.Prelude.{◌≡◌};
+ghost use Rattle.rules.specs.Refusals.{answer_of};
 ghost use Rattle.rules.specs.Answers.{posted_of, counted_of, entry_read_of, balance_answer_of, tally_answer_of, month_answer_of, ceiling_answer_of, first_day_answer_of, controlled_of, file_read_of, collateral_answer_of};
 
 use crate::{
@@ -8,6 +9,16 @@ use crate::{
     TallyAnswer,
 };
 use case_figures::Month;
+
+// The answer of a call with no other figure: 0, or the cause.
+pub fn answer_of(done: Result<(), Refusal>) -> u32
+    ensures { result ≡ answer_of done }
+{
+    match done {
+        Ok(()) => 0,
+        Err(refusal) => refusal.into(),
+    }
+}
 
 impl From<Result<u32, Refusal>> for Posted {
     ghost from_gives = { λ done posted. posted ≡ posted_of done };

@@ -3,7 +3,7 @@
 
 use case_figures::Month;
 
-mod answers;
+pub mod answers;
 pub mod bounds;
 pub mod causes;
 pub mod layout;
