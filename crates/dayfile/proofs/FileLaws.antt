@@ -15,23 +15,17 @@ use Rattle.rules.specs.declared.FileRead.{FileRead}
 use Rattle.rules.proofs.WordLaws.{book-facts, room-words}
 use Rattle.rules.proofs.CancelLaws.{lines-legal}
 use Rattle.rules.proofs.CallLaws.{FilePasses, file-passes, file-cause, refused-words, refused-figures, done-figures, done-words}
-use Rattle.file_check.specs.Check.{none_posted}
 use Rattle.dayfile.specs.Stored.{stored_from}
 use Rattle.dayfile.proofs.PostLaws.{posted-all}
 
-abbrev Answers : FileRead → List ℕ → List ℕ → List ℕ → Type 0
-Answers r vs ws bs = (r ≡ file_answer ws bs) × (vs ≡ words_after ws (file bs))
-
 -- a file that is refused is not read
-refused : (ws bs : List ℕ) (k : ℕ) → cause_of ws (file bs) ≡ suc k → Answers (none_posted (suc k)) ws ws bs
-refused ws bs k e =
-    let n : cause_of ws (file bs) ≡ 0 → ⊥ = λ z. suc-ne-zero k (sym e ∙ z) in
-    (rw (refused-figures ws (file bs) n, e), sym (refused-words ws (file bs) n))
+refused : (ws bs : List ℕ) (k : ℕ) → cause_of ws (file bs) ≡ suc k → ◌≡◌ {A = FileRead} (record { answer = suc k; posted = 0 }) (file_answer ws bs)
+refused ws bs k e = rw (refused-figures ws (file bs) (λ z. suc-ne-zero k (sym e ∙ z)), e)
 
-pub not-a-book : (ws bs : List ℕ) → is_book ws ≡ false → Answers (none_posted 1) ws ws bs
+pub not-a-book : (ws bs : List ℕ) → is_book ws ≡ false → ◌≡◌ {A = FileRead} (record { answer = 1; posted = 0 }) (file_answer ws bs)
 not-a-book ws bs b = refused ws bs 0 (rw (file-cause, b))
 
-pub not-a-file : (ws bs : List ℕ) → is_book ws ≡ true → is_file bs ≡ false → Answers (none_posted 2) ws ws bs
+pub not-a-file : (ws bs : List ℕ) → is_book ws ≡ true → is_file bs ≡ false → ◌≡◌ {A = FileRead} (record { answer = 2; posted = 0 }) (file_answer ws bs)
 not-a-file ws bs b f = refused ws bs 1 (rw (file-cause, b, f))
 
 module _ (ws bs : List ℕ) {r : FileRead} (e : r ≡ file_answer ws bs) where

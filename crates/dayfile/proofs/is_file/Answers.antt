@@ -1,16 +1,11 @@
 -- `dayfile::is_file` meets its contract. Assumes nothing.
-use borrow.Author.Tests.{le-leb, lt-leb, eq-eqb, ne_eqb}
 use Rattle.rules.specs.DayFile.{is_file}
 use Rattle.dayfile.proofs.is_file.Goals as goal
 
-pub returns-then-size-gt-MOST_FILE_BYTES : goal.returns-then-size-gt-MOST_FILE_BYTES
+pub returns-then-size : goal.returns-then-size
 unfolding is_file
-returns-then-size-gt-MOST_FILE_BYTES c = rw (lt-leb _ _ c.if-size-gt-MOST_FILE_BYTES.true)
+returns-then-size c = rw c.if-size.true c.shaped.ensures
 
-pub returns-then-size-ne0 : goal.returns-then-size-ne0
+pub returns-else-size : goal.returns-else-size
 unfolding is_file
-returns-then-size-ne0 c = rw (le-leb _ _ c.if-size-gt-MOST_FILE_BYTES.false, ne_eqb _ _ c.if-size-ne0.true)
-
-pub returns : goal.returns
-unfolding is_file
-returns c = rw (le-leb _ _ c.if-size-gt-MOST_FILE_BYTES.false, eq-eqb _ _ c.if-size-ne0.false) c.shaped.ensures
+returns-else-size c = rw c.if-size.false
