@@ -80,7 +80,7 @@ fn figure(word: &[u8]) -> u64 {
     }
 }
 
-// Reads until the text is full, the input ends or a read fails; how many bytes came.
+// Reads until the text is full, the input ends or a read fails, which ends a list (`program_input` refuses it); how many bytes came.
 pub fn filled<R: Read>(input: &mut R, text: &mut [u8]) -> usize
     ensures { result ≤ length text.new }
 {
