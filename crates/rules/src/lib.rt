@@ -5,7 +5,6 @@ use case_figures::Month;
 
 pub mod answers;
 pub mod bounds;
-pub mod causes;
 pub mod layout;
 mod refusal;
 
