@@ -43,6 +43,7 @@ fn cell_of(e: EntryWords, party: u32, day: u32) -> Option<usize>
 }
 
 // Adds an entry to its cell.
+#[tactic(auto, unfolding(cells::specs::Cells::added, cells::specs::Cells::add_to_each))]
 fn add_entry(cells: &mut [u64; CELLS], e: EntryWords, party: u32, day: u32)
     requires amount { (entry_in e).amount ≤ most_money }
     requires cells { AtMost most_in_cell cells.old }
