@@ -15,7 +15,8 @@ pub const WINDOW_DAYS: u32 = 30;
 
 const CELLS: usize = 120;
 
-// A party's money by day and type: cell 4 × i + j is that of type 17 + j on the day i days before the latest.
+// A party's money by day and type: cell 4 × i + j is that of type 17 + j on the day i days before the latest. One flat table, as
+// the laws of `cells` have it.
 #[derive(Drop)]
 pub struct Window {
     pub cells: [u64; CELLS],
