@@ -27,10 +27,9 @@ pub fn ceiling(offer: u32, bilateral: u32, futures: u32, capacity: u32) -> Resul
 fn in_range(offer: u32, bilateral: u32, futures: u32, capacity: u32) -> bool
     ensures { result ≡ every (leb offer most_volume ∷ leb bilateral most_volume ∷ leb futures most_volume ∷ leb capacity most_volume ∷ []) }
 {
-    (offer <= MOST_OFFER)
-        & (bilateral <= MOST_OFFER)
-        & (futures <= MOST_OFFER)
-        & (capacity <= MOST_OFFER)
+    [offer, bilateral, futures, capacity]
+        .iter()
+        .all(|figure| *figure <= MOST_OFFER)
 }
 
 // 2 × O is at most (larger of 50,000 and 3 × (N + V)) + 2 × G; 64 bits hold both sides for any figures.

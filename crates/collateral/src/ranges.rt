@@ -8,7 +8,7 @@ use crate::months;
 use case_figures::Case;
 use rules::Refusal;
 
-// A case whose figures are in their ranges.
+// A case whose figures are in their ranges. Licence, holiday and responsible stay the C call's numbers: another one is cause 12.
 #[derive(Clone, Copy)]
 pub struct CheckedCase {
     pub case: Case,

@@ -15,7 +15,8 @@ pub const WINDOW_DAYS: u32 = 30;
 
 const CELLS: usize = 120;
 
-// A party's money by day and type: cell 4 × i + j is that of type 17 + j on the day i days before the latest.
+// A party's money by day and type: cell 4 × i + j is that of type 17 + j on the day i days before the latest. One flat table, as
+// the laws of `cells` have it.
 #[derive(Drop)]
 pub struct Window {
     pub cells: [u64; CELLS],
@@ -43,6 +44,7 @@ fn cell_of(e: EntryWords, party: u32, day: u32) -> Option<usize>
 }
 
 // Adds an entry to its cell.
+#[tactic(auto, unfolding(cells::specs::Cells::added, cells::specs::Cells::add_to_each))]
 fn add_entry(cells: &mut [u64; CELLS], e: EntryWords, party: u32, day: u32)
     requires amount { (entry_in e).amount ≤ most_money }
     requires cells { AtMost most_in_cell cells.old }
