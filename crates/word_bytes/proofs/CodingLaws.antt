@@ -73,14 +73,6 @@ module _ (n : ℕ) (ws vs : List ℕ) (h : n ≤ length ws) (k : length vs ≡ l
   pub back_long : n ≤ length (vs ++ drop n ws)
   back_long = rw (length-append vs (drop n ws)) (omega (arith, taken n ws h))
 
-  pub back-taken : n ≡ length (take n (vs ++ drop n ws))
-  back-taken = sym (length-take-le n (vs ++ drop n ws) back_long)
-
-  pub back-lent : (bs : List ℕ) → 4 * n ≤ length bs → 4 * length (take n (vs ++ drop n ws)) ≤ length bs
-  back-lent bs b = rw (← back-taken) b
-
-pub ruleset parts = (taken, back_long, back-taken, back-lent)
-
 -- the words that the code reads
 words-whole : (m : ℕ) (bs : List ℕ) → is_whole bs ≡ true → words_in m bs ≡ take m (words_of bs)
 unfolding words_in
