@@ -7,7 +7,7 @@ use native.Mathlib.Omega.{arith}
 use lib.ListN.{length}
 use Rattle.numbers.specs.Tests.{any}
 use Rattle.numbers.proofs.TestLaws.{or-false-split}
-use Rattle.numbers.proofs.CauseLaws.{else-stop, else-none}
+use Rattle.numbers.proofs.CauseLaws.{else-stop}
 use Rattle.rules.specs.Entry.{Record, is_mark}
 use Rattle.rules.specs.Book.{is_closed}
 use Rattle.rules.specs.DayFile.{Item, line, empty_block, lines_of, items}
@@ -26,10 +26,6 @@ open-days (r ∷ rs) e d =
 pub none-closed : (rs : List Record) → any is_mark rs ≡ false → TableOf (false ∷ []) rs
 none-closed rs e zero h = sym (open-days rs e 0)
 none-closed rs e (suc d) h = sym (open-days rs e (suc d))
-
--- the cause of one item
-pub cause_of-one : (cs : List Bool) (i : Item) {is : List Item} {r : ℕ} → r ≡ cause_by cs i → is ≡ i ∷ [] → r ≡ first_cause cs is
-cause_of-one cs i q e = rw (e, else-none (cause_by cs i)) q
 
 -- one item, and those after it
 pub item-fails : (cs : List Bool) {is : List Item} (i : Item) {next : List Item} {k : ℕ} → is ≡ i ∷ next → k ≡ cause_by cs i → (k ≡ 0 → ⊥) → first_cause cs is ≡ k

@@ -32,9 +32,6 @@ pub record Marks (names : ℕ → Item → Bool) (is : List Item) (whole t : Lis
   pub long : length t ≡ length whole
   pub has : (n : ℕ) → n < length whole → get_or whole n false || any (names n) is ≡ get_or t n false || any (names n) left
 
-pub marks-start : (names : ℕ → Item → Bool) (is : List Item) (t : List Bool) → Marks names is t t is
-marks-start names is t = record { long = refl; has = λ n b. refl }
-
 module _ {names : ℕ → Item → Bool} {is left : List Item} {whole t : List Bool} (w : Marks names is whole t left) where
   -- one item
   pub marks-step : {i : Item} {next : List Item} {u : List Bool} → left ≡ i ∷ next → length u ≡ length t →

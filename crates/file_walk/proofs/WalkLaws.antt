@@ -181,10 +181,6 @@ unread Broken k = 0
 abbrev pub to_come : Pass → ℕ
 to_come p = unread p.form (length p.reader.bytes.now - p.reader.at)
 
--- where a pass begins
-pub along-start : (bs : List ℕ) (r : Reader) → r.bytes.now ≡ bs → r.at ≡ 0 → Along bs (record { reader = r; form = Open 0 })
-along-start bs r b z = record { bytes = b; same = rw (b, z) }
-
 module _ {bs : List ℕ} {p : Pass} (a : Along bs p) {left : ℕ} (on : p.form ≡ Open left) {next : Pass} (e : next ≡ passed_on p.reader left) where
   pub along-on : Along bs next
   along-on =
