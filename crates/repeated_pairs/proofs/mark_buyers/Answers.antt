@@ -1,4 +1,4 @@
-use mathlib.Core.Path.{◌≡◌, sym, ◌∙◌}
+use mathlib.Core.Path.{sym, ◌∙◌}
 use Rattle.cells.proofs.ScanLaws.{book_scan, scan-entry}
 use Rattle.repeated_pairs.specs.Pairs.{buyers_of}
 use Rattle.repeated_pairs.proofs.PairLaws.{words-fit, hit-buyer, buyer-marked, buyer-kept}

@@ -4,7 +4,7 @@ use native.Mathlib.Omega.{arith}
 use Rattle.numbers.specs.Sums.{total, count}
 use Rattle.rules.specs.Words.{read_entries}
 use Rattle.cells.proofs.ScanLaws.{book_scan, scan-few}
-use Rattle.repeated_pairs.specs.Pairs.{is_other, pairs_of}
+use Rattle.repeated_pairs.specs.Pairs.{pairs_of}
 use Rattle.repeated_pairs.proofs.FlagLaws.{byte-is}
 use Rattle.repeated_pairs.proofs.PairLaws.{words-fit, others-few, others-next, others-all}
 use Rattle.repeated_pairs.proofs.mark_pairs.Goals as goal
