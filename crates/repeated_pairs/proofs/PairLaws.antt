@@ -193,14 +193,6 @@ pair-in false r p q = omega arith
 pub bit-within : {n k : ℕ} (words : List ℕ) {r : Record} → n ≡ bit_words (is_few n) → length words ≡ n → Paired r → k ≡ bit_of (is_few n) r → k < 64 * length words
 bit-within words {r} e l p q = rw (l, e) (pair-in _ r p q)
 
--- the remainder by their number is the bit: where each pair has its own, all are below
-pub bit-is : (n : ℕ) {r : Record} → n ≡ bit_words (is_few n) → Paired r → pair_of r % (64 * n) ≡ bit_of (is_few n) r
-bit-is n {r} e p =
-    elim (bool_cases (is_few n)) [
-      | inl q ↦ let k : n ≡ 64 = e ∙ ap bit_words q in rw (q, k)
-      | inr q ↦ let k : n ≡ 16000 = e ∙ ap bit_words q in rw (q, k) (omega arith)
-    ]
-
 -- a bit of its own for each pair
 same-pair : (r s : Record) → Paired r → Paired s → eqb (pair_of s) (pair_of r) ≡ eqb (key s).party (key r).party && eqb (key s).counterparty (key r).counterparty
 same-pair r s p q =
