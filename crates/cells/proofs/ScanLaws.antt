@@ -16,7 +16,7 @@ use Rattle.rules.specs.Words.{most_entries, is_book, entries, count_of, decode, 
 use Rattle.rules.specs.Book.{entry_at}
 use Rattle.rules.specs.declared.Entry.{Entry}
 use Rattle.rules.proofs.WordLaws.{book-facts, entry-facts, read-legal, length-read}
-use Rattle.words.proofs.BookCode.{book-long, book-entry}
+use Rattle.words.proofs.BookCode.{book-entry}
 use Rattle.cells.specs.Cells.{Cells, added, over, blank, filled, Limited, AtMost}
 use Rattle.cells.proofs.CellLaws.{over-more, total-more, cell-limit}
 
@@ -113,20 +113,3 @@ module _ (ws : List ℕ) (b : is_book ws ≡ true) where
 
   pub scan-end : (i : ℕ) → count_of ws ≤ i → take i (entries ws) ≡ entries ws
   scan-end i h = take_all i (entries ws) (omega (arith, (book-facts ws b).count))
-
-  -- an entry read by its number
-  module _ {n : ℕ} (i : ℕ) (c : n ≡ count_of ws) (h : i < n) where
-    within : i < count_of ws
-    within = rw c at h
-
-    pub scan-within : 3 + 5 * i + 5 ≤ length ws
-    scan-within = (book-entry ws b i within).within
-
-    pub scan-legal : {e : Entry} → e ≡ entry_of (read_at ws i) → legal (record_in e) ≡ true
-    scan-legal q = rw q (legal-at i within)
-
-    pub scan-next : {e : Entry} → e ≡ entry_of (read_at ws i) → {S : Type 0} {f : Record → S → S} {none s t : S} →
-        Scanned f none ws n i s → t ≡ f (record_in e) s → Scanned f none ws n (i + 1) t
-    scan-next q {f = f} {s = s} p r = scan-more h p (r ∙ ap (λ x. f (record_in x) s) q)
-
-pub ruleset scan = (book-long, scan-start, scan-within, scan-legal, scan-next, scan-done)

@@ -8,7 +8,7 @@ use native.Mathlib.Nat.{add-zero, le_refl}
 use native.Mathlib.Omega.{arith}
 use lib.Dec.{eqb, ltb}
 use lib.IntN.{sub_ℕ}
-use lib.ListN.{length, get_or, set}
+use lib.ListN.{get_or, set}
 use lib.Seq.{set-get_or}
 use borrow.Author.Tests.{eqb-true, eqb-false, eq-eqb, ne_eqb, ltb-true, not-true}
 use Rattle.numbers.specs.Sums.{total}
@@ -21,7 +21,7 @@ use Rattle.rules.proofs.WordLaws.{legal-bounds}
 use Rattle.rules.proofs.Limits.{legal-amount, volume-limit}
 use Rattle.rules.proofs.SumOrder.{for_tests, to_tests, counts-for, counts-to}
 use Rattle.cells.specs.Cells.{one_if, add_to, add_to_each, added, goes_to, in_cell, apart, Limited, AtMost}
-use Rattle.cells.proofs.CellLaws.{same_test, to-first, to-later, to-either, to_none, goes_one, one-goes, length-filled, cell-sum}
+use Rattle.cells.proofs.CellLaws.{same_test, to-first, to-later, to-either, to_none, goes_one, one-goes, cell-sum}
 use Rattle.balance_formulas.specs.Bounded.{most_sum}
 use Rattle.detection.specs.Tables.{last_type, is_cover_type, is_read_type, party_cells, table_cells, cover_place, side_of, cell_of, is_read, own_amount, day_cells, table_of, ahead_at}
 
@@ -235,10 +235,6 @@ module _ (d : ℕ) (l : Label) where
 
 pub day-limited : (d : ℕ) → Limited (day_cells d) most_volume
 day-limited d = record { apart-at = day-apart d; amount = λ r j l e. read-amount d r l (goes d r.label j e).0 }
-
-pub length-table : (d : ℕ) (rs : List Record) → length (table_of d rs) ≡ table_cells
-unfolding table_of
-length-table d rs = length-filled (day_cells d) table_cells rs
 
 -- of several types a record counts in one at most
 module _ (p d : ℕ) (r : Record) where

@@ -12,7 +12,7 @@ use prog.Memory.{up}
 use borrow.Author.Tests.{eqb-true, eq-eqb, ne_eqb, leb-true, ltb-true, le-leb, lt-ltb}
 use Rattle.numbers.specs.Sums.{total, count}
 use Rattle.numbers.specs.Tests.{every, all, any}
-use Rattle.numbers.proofs.SumLaws.{cond_below, count-le-length}
+use Rattle.numbers.proofs.SumLaws.{count-le-length}
 use Rattle.numbers.proofs.TestLaws.{bool_cases, below-or-above, and_split, and-join, or_cases, or_left, or_right, or-false-split, every_holds, holds-every}
 use Rattle.calendar.specs.Calendar.{months, month_of, month_start}
 use Rattle.calendar.proofs.MonthLaws.{start-mono, start-end, InMonth, month-unique, month-past, month-holds}
@@ -24,7 +24,7 @@ use Rattle.rules.specs.Control.{is_earlier_or_later, is_repeated_buyer}
 use Rattle.rules.proofs.WordLaws.{no-fault, legal-bounds, book-facts, length-read}
 use Rattle.cells.specs.Cells.{over, blank}
 use Rattle.cells.proofs.CellLaws.{same_test}
-use Rattle.cells.proofs.ScanLaws.{Scanned, read_to, total-next}
+use Rattle.cells.proofs.ScanLaws.{read_to, total-next}
 use Rattle.repeated_pairs.specs.Flags.{flagged, no_flags, with_flag}
 use Rattle.repeated_pairs.specs.Pairs.{is_other, Paired, pair_of, bit_of, bit_words, is_few, bit_at, with_bit, marked, pair_marked, pairs_of, is_hit, buyer_marked, buyers_of, shares_bit, likely_buyer, likely_among}
 use Rattle.repeated_pairs.specs.Periods.{IsPeriod}
@@ -193,14 +193,6 @@ pair-in false r p q = omega arith
 pub bit-within : {n k : ℕ} (words : List ℕ) {r : Record} → n ≡ bit_words (is_few n) → length words ≡ n → Paired r → k ≡ bit_of (is_few n) r → k < 64 * length words
 bit-within words {r} e l p q = rw (l, e) (pair-in _ r p q)
 
--- the remainder by their number is the bit: where each pair has its own, all are below
-pub bit-is : (n : ℕ) {r : Record} → n ≡ bit_words (is_few n) → Paired r → pair_of r % (64 * n) ≡ bit_of (is_few n) r
-bit-is n {r} e p =
-    elim (bool_cases (is_few n)) [
-      | inl q ↦ let k : n ≡ 64 = e ∙ ap bit_words q in rw (q, k)
-      | inr q ↦ let k : n ≡ 16000 = e ∙ ap bit_words q in rw (q, k) (omega arith)
-    ]
-
 -- a bit of its own for each pair
 same-pair : (r s : Record) → Paired r → Paired s → eqb (pair_of s) (pair_of r) ≡ eqb (key s).party (key r).party && eqb (key s).counterparty (key r).counterparty
 same-pair r s p q =
@@ -248,18 +240,6 @@ hit-buyer few d among pairs r l e =
 module _ (few : Bool) (d : ℕ) where
   other-in : (s : Record) → legal s ≡ true → is_other d s ≡ true → bit_of few s < 64 * bit_words few
   other-in s l e = pair-in few s (paired s l (other-cancelled d s e)) refl
-
-  pub length_pairs : (rs : List Record) → length (over (pair_marked few d) rs (blank (bit_words few))) ≡ bit_words few
-  unfolding pair_marked
-  length_pairs rs =
-      length_over with_bit (is_other d) (bit_of few) bit_at (bit_words few) (64 * bit_words few) length-bit (bit-after (bit_words few)) other-in rs (blank (bit_words few)) ∙ length-words few
-
-  pub pairs-scanned : {ws pairs : List ℕ} {n i : ℕ} → Scanned (pair_marked few d) (blank (bit_words few)) ws n i pairs → length pairs ≡ bit_words few
-  pairs-scanned {ws} {i = i} p = ap length p.state ∙ length_pairs (read_to ws i)
-
-  pub pairs-long : (rs : List Record) {pairs : List ℕ} → pairs ≡ pairs_of few d rs → length pairs ≡ bit_words few
-  unfolding pairs_of
-  pairs-long rs e = ap length e ∙ length_pairs rs
 
   module _ (rs : List Record) (ok : all legal rs ≡ true) where
     pair-bit : (r : Record) → bit_at (pairs_of few d rs) (bit_of few r) ≡ any (shares_bit few d r) rs
@@ -314,9 +294,6 @@ buyers-are few d ws among buyers b p q =
     ap flagged (q ∙ ap (λ x. buyers_of few d among x (entries ws)) p) ∙ buyers-flagged few d (entries ws) (book-facts ws b).legals among
 
 -- the entries of other days, counted one after the other
-pub one-most : (b : Bool) {n : ℕ} → n ≡ cond b 1 0 → n ≤ 1
-one-most b e = rw e (cond_below b 1)
-
 module _ (d : ℕ) (ws : List ℕ) (i : ℕ) {n : ℕ} (c : n ≡ count (is_other d) (read_to ws i)) where
   pub others-few : n ≤ i
   others-few = omega (arith, count-le-length (is_other d) (read_to ws i), length-read i (drop 3 ws))

@@ -1,15 +1,12 @@
-use mathlib.Core.Path.{◌≡◌, sym, ◌∙◌}
+use mathlib.Core.Path.{sym, ◌∙◌}
 use Rattle.cells.proofs.ScanLaws.{book_scan, scan-entry}
 use Rattle.repeated_pairs.specs.Pairs.{buyers_of}
-use Rattle.repeated_pairs.proofs.PairLaws.{words-fit, hit-buyer, buyer-marked, buyer-kept}
+use Rattle.repeated_pairs.proofs.PairLaws.{hit-buyer, buyer-marked, buyer-kept}
 use Rattle.repeated_pairs.proofs.mark_buyers.Goals as goal
 use Rattle.repeated_pairs.proofs.mark_buyers.Goals.{then-is_hit, else-is_hit}
 
 pub loop-i-init : goal.loop-i-init
 loop-i-init g c = search book_scan
-
-pub is_hit-requires : goal.is_hit-requires
-is_hit-requires g c = (words-fit c.pairs.invariant, c.entry-e.ensures.legal)
 
 pub put-requires : goal.put-requires
 put-requires g c = hit-buyer _ _ _ _ _ c.entry-e.ensures.legal (sym c.is_hit.ensures ∙ c.if-is_hit.true)

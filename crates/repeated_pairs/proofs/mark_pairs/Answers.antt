@@ -4,17 +4,14 @@ use native.Mathlib.Omega.{arith}
 use Rattle.numbers.specs.Sums.{total, count}
 use Rattle.rules.specs.Words.{read_entries}
 use Rattle.cells.proofs.ScanLaws.{book_scan, scan-few}
-use Rattle.repeated_pairs.specs.Pairs.{is_other, pairs_of}
+use Rattle.repeated_pairs.specs.Pairs.{pairs_of}
 use Rattle.repeated_pairs.proofs.FlagLaws.{byte-is}
-use Rattle.repeated_pairs.proofs.PairLaws.{words-fit, others-few, others-next, others-all}
+use Rattle.repeated_pairs.proofs.PairLaws.{others-few, others-next, others-all}
 use Rattle.repeated_pairs.proofs.mark_pairs.Goals as goal
 
 pub loop-i-init : goal.loop-i-init
 unfolding count total read_entries
 loop-i-init g c = (search book_scan, refl, c.of-period.ensures)
-
-pub mark_other-requires : goal.mark_other-requires
-mark_other-requires g c = (words-fit c.pairs.invariant, c.entry.ensures.legal)
 
 pub overflow_add-n : goal.overflow_add-n
 overflow_add-n g c =

@@ -15,9 +15,6 @@ pub returns-then-not-e-day : goal.returns-then-not-e-day
 unfolding is_hit
 returns-then-not-e-day g c = rw c.if-not-e-day.true
 
-pub bit_of-bit-requires-clause-words : goal.bit_of-bit-requires-clause-words
-bit_of-bit-requires-clause-words g c = c.self.invariant
-
 pub bit_of-bit-requires-clause-pair : goal.bit_of-bit-requires-clause-pair
 bit_of-bit-requires-clause-pair g c = pair g (goal.at.bit_of-bit-requires-clause-pair g c).Else-not-e-day
 
