@@ -16,9 +16,9 @@ use Rattle.file_names.specs.Names.{names_party}
 use Rattle.file_names.proofs.NameLaws.{not_named}
 use Rattle.rules.specs.Words.{is_book, entries, coefficient_of, tolerance_of}
 use Rattle.rules.specs.Balance.{Volume, balance_of, balance_answer, party_day_cause}
-use Rattle.rules.specs.declared.TallyAnswer.{TallyAnswer}
+use Rattle.rules.specs.declared.PartyDay.{PartyDay}
 use Rattle.tally.specs.Scan.{scanned}
-use Rattle.position.proofs.AnswerLaws.{no-cause, balance-done}
+use Rattle.position.proofs.AnswerLaws.{balance-done}
 use Rattle.text.specs.Text.{each_from, refusal}
 use Rattle.text.proofs.TextLaws.{each_same, each_none}
 use Rattle.report.specs.Asked.{Asked}
@@ -49,9 +49,11 @@ module _ (ws bs : List ℕ) {r : FileRead} (e : r ≡ file_answer ws bs) where
 
 -- a balance asked of a book, for a party and a day in their ranges, is not refused
 pub asked-cause : {ws : List ℕ} {p d : ℕ} → Asked ws p d → 0 ≡ party_day_cause ws p d
-asked-cause {ws} {p} {d} a = no-cause ws p d a.is-book (rw (le-leb 1 p a.party-above, le-leb p 999 a.party)) (le-leb d 36524 a.day)
+unfolding party_day_cause
+asked-cause {ws} {p} {d} a =
+    rw (a.is-book, le-leb 1 p a.party-above, le-leb p 999 a.party, le-leb d 36524 a.day)
 
 -- its balance is that of what the scan read
-pub asked-balance : {ws : List ℕ} {p d : ℕ} → Asked ws p d → (v : Volume) {s : TallyAnswer} {R TM : ℕ} {z : ℤ} → s ≡ scanned p d (entries ws) → R ≡ coefficient_of ws → TM ≡ tolerance_of ws →
-    z ≡ balance_of v R TM s.tally s.bought → z ≡ (balance_answer v ws p d).balance
-asked-balance {ws} {p} {d} a v f g h e = ap (λ b. b.balance) (balance-done ws p d (asked-cause a) v refl f g h e)
+pub asked-balance : {ws : List ℕ} {p d : ℕ} → Asked ws p d → (v : Volume) {x : PartyDay} {R TM : ℕ} {z : ℤ} → x ≡ scanned p d (entries ws) → R ≡ coefficient_of ws → TM ≡ tolerance_of ws →
+    z ≡ balance_of v R TM x.tally x.bought → z ≡ (balance_answer v ws p d).balance
+asked-balance {ws} {p} {d} a v f g h e = ap (λ b. b.balance) (balance-done ws p d v (asked-cause a) f g h e)

@@ -1,8 +1,9 @@
 // What the program `balance` prints, as a function on slices (01, 'Day file').
 #![tactic(auto)]
 
-ghost use Rattle.std.specs.Prelude.{◌≤◌, length};
+ghost use Rattle.std.specs.Prelude.{◌≡◌, true, ◌≤◌, length};
 ghost use Rattle.rules.specs.Entry.{last_party};
+ghost use Rattle.rules.specs.Words.{is_book};
 ghost use Rattle.rules.specs.Book.{open_default_words};
 ghost use Rattle.text.specs.Text.{Wrote, Whole};
 ghost use Rattle.text.specs.Written.{Puts};
@@ -34,12 +35,13 @@ fn put_line(party: u32, day: u32, ahead: i64, due: i64, out: &mut Out<'_>)
 
 // A day file, and the book that it was read into.
 #[derive(Drop)]
-struct Filed<'a> {
-    book: Book<'a>,
-    file: &'a [u8],
+struct Filed<'b, 'f> {
+    book: Book<'b>,
+    file: &'f [u8],
+    ghost is_book: { is_book book ≡ true },
 }
 
-impl<'a> Filed<'a> {
+impl<'b, 'f> Filed<'b, 'f> {
     // Both balances by one scan of the book.
     fn put_pair(&self, party: u32, day: u32, out: &mut Out<'_>)
         requires { Asked self.now.book party day }

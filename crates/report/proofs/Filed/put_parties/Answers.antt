@@ -20,7 +20,7 @@ loop-party-preserved c =
       | then-parties-party w ↦ rw w.out-is w.put_party.ensures
       | else-parties-party w ↦ (
           let marked = c.mark_parties.ensures p (rw length-replicate h) ∙ rw (get_or-replicate 1000 p false false h) in
-          rw (w.out-is, no_lines c.args.self.now.file.now c.args.self.now.book.now p (sym marked ∙ w.if-parties-party.false)) (puts_none _)
+          rw (w.out-is, no_lines c.args.self.now.file.now c.args.self.now.book p (sym marked ∙ w.if-parties-party.false)) (puts_none _)
           )
     ])
 

@@ -6,4 +6,4 @@ use Rattle.report.specs.Report.{party_lines}
 use Rattle.report.proofs.Filed.put_parties.Given as goal
 
 abbrev pub invariant-loop-party : goal.invariant-loop-party
-invariant-loop-party l = Puts l.initial.out (each_from (party_lines l.self.file.now l.self.book.now) (l.party - 1) 1) l.out
+invariant-loop-party l = Puts l.initial.out (each_from (party_lines l.self.file.now l.self.book) (l.party - 1) 1) l.out

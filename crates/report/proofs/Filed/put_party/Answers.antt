@@ -21,5 +21,5 @@ loop-day-preserved c =
 pub returns : goal.returns
 returns c =
     let all : c.loop-day.day ≡ 36525 = omega arith in
-    rw (← table-lines c.args.self.now.file.now c.args.self.now.book.now c.args.party c.mark_days.new.days (λ d h. c.mark_days.ensures d (rw length-replicate h) ∙ rw (get_or-replicate 36525 d false false h)))
+    rw (← table-lines c.args.self.now.file.now c.args.self.now.book c.args.party c.mark_days.new.days (λ d h. c.mark_days.ensures d (rw length-replicate h) ∙ rw (get_or-replicate 36525 d false false h)))
     (rw all at c.loop-day.invariant)

@@ -9,4 +9,4 @@ use Rattle.report.proofs.Filed.put_party.Given as goal
 
 abbrev pub invariant-loop-day : goal.invariant-loop-day
 invariant-loop-day l =
-    Puts l.initial.out (each_from (λ d. cond (get_or l.named-items d false) (line_of l.self.book.now l.party d) []) l.day 0) l.out
+    Puts l.initial.out (each_from (λ d. cond (get_or l.named-items d false) (line_of l.self.book l.party d) []) l.day 0) l.out

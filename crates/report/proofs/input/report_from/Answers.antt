@@ -13,4 +13,4 @@ returns-in-Ok-clause-whole g c = rw c.in-Ok.is (c.report-count.ensures.whole (om
 pub returns-in-Err-clause-whole : goal.returns-in-Err-clause-whole
 unfolding printed
 returns-in-Err-clause-whole g c =
-    rw c.in-Err.is (wrote-whole c.refused-count.ensures (le_trans (refusal-fits _) (omega arith)))
+    rw (c.in-Err.is, ← c.into.ensures) (wrote-whole c.refused-count.ensures (le_trans (refusal-fits _) (omega arith)))
