@@ -77,7 +77,8 @@ fn change_in<const N: usize, T, F: FnOnce(&mut [u32]) -> Result<T, Refusal>>(
     answer
 }
 
-// Any call that changes a book and adds so many entries at most.
+// Any call that changes a book and adds so many entries at most. The sizes are chosen as in `ask_with`: no function takes one
+// that is generic in a size.
 pub fn change<T, F: FnOnce(&mut [u32]) -> Result<T, Refusal>>(
     book: &mut [u8],
     places: usize,

@@ -6,9 +6,9 @@ ghost use Rattle.rules.specs.Entry.{key_in, party_ok, day_ok, is_type, is_volume
 ghost use Rattle.rules.specs.Refusals.{answer_of};
 ghost use Rattle.entry_checks.specs.Parts.{counterparty_limit};
 
-use rules::{Key, Refusal};
 use rules::bounds::{LAST_DAY, LAST_PARTY, MOST_MONEY, MOST_VOLUME};
 use rules::layout::{BILATERAL, UPDATED_PROGRAM};
+use rules::{Key, Refusal};
 
 // Checks 3 to 7 of a post, one each (01, 'Entry types').
 pub fn party_ok(party: u32) -> bool

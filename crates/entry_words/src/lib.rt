@@ -109,11 +109,13 @@ impl EntryWords {
         }
     }
 
-    // A mark of a day (01, 'Control of a day').
+    // A mark of a day (01, 'Control of a day'). Both figures are compared as one: a branch on the day would be mispredicted.
     pub fn is_mark_of(self, day: u32) -> bool
         ensures { result ≡ is_mark_of day (entry_in self) }
     {
-        (self.entry_type() == MARK) & (self.day() == day)
+        let types = u64::from(TYPES);
+        let dated = u64::from(self.day()) * types + u64::from(self.entry_type());
+        dated == u64::from(day) * types + u64::from(MARK)
     }
 
     // The two words of the amount: in order as one number, where their kinds are right.

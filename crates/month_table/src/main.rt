@@ -5,6 +5,7 @@
 fn main(rt: HostRuntime) {
     let mut out = [0u8; month_lines::MOST_TEXT];
     let count = month_lines::table(&mut out);
+    // said here, so that the program rests on `month_lines` alone
     if rt.write_all(&out[..count]).is_err() {
         let _ = eprintln!(rt; "month_table: write failed");
     }

@@ -17,6 +17,7 @@ pub fn read_whole<R: Read>(reader: &mut R, buffer: &mut [u8]) -> io::Result<usiz
         (λ count. count < length buffer.new → IsAtEnd (R.remaining reader.new)) }
 {
     let mut done = 0;
+    // no index is counted: each read says how far it came
     while done < buffer.len() {
         let count = reader.read(&mut buffer[done..])?;
         if count == 0 {

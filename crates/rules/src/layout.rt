@@ -1,4 +1,5 @@
-// The layout of a book's words and of a day file's (01, 'The words', 'Day file').
+// The layout of a book's words and of a day file's (01, 'The words', 'Day file'). Figures are `u32`; where one is an index it is
+// taken `as usize`, to which no `From` leads.
 
 // A word's top four bits of 32 are its kind.
 pub const KIND: u32 = 268435456;
