@@ -56,7 +56,7 @@ fn check_withdrawal(book: &[u32], number: u32) -> Result<(), Refusal>
     if book.count() <= number {
         return Err(Refusal::NoEntry);
     }
-    book.kept(number)
+    book.kept(book.entry(number))
 }
 
 // Gives the entry of this number status 1. Its place is not used again.

@@ -41,7 +41,7 @@ pub fn is_type(entry_type: u32) -> bool
     is_volume(entry_type) | is_money(entry_type)
 }
 
-// The largest counterparty of a type. It is chosen, and nothing branches on the type of a legal entry: see `words_ok`.
+// The largest counterparty of a type. It is chosen, and nothing branches on the type of a legal entry: see `entry_words`.
 fn counterparty_limit(entry_type: u32) -> u32
     ensures { result ≡ counterparty_limit entry_type }
 {

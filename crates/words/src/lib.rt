@@ -70,12 +70,7 @@ fn room(lent: usize) -> usize
     if lent < HEAD_WORDS {
         return 0;
     }
-    let places = (lent - HEAD_WORDS) / ENTRY_WORDS;
-    if places < MOST_ENTRIES {
-        places
-    } else {
-        MOST_ENTRIES
-    }
+    MOST_ENTRIES.min((lent - HEAD_WORDS) / ENTRY_WORDS)
 }
 
 // The number of entries that a book's first word gives.
@@ -155,7 +150,8 @@ impl<'a> Book<'a> {
         self.count() as usize + places as usize <= room(self.words.len())
     }
 
-    // The words of an entry by its number.
+    // The words of an entry by its number. Scans go by number, `for i in 0..book.count()`: it is what stores and laws name an entry
+    // by, and an iterator of our own would be no plainer in a loop.
     pub fn entry_words(&self, number: u32) -> EntryWords
         requires { number < count_of self.now }
         ensures words { result ≡ words_at self.now (place_of number) }
@@ -195,12 +191,10 @@ impl<'a> Book<'a> {
         self.is_closed(key.day)
     }
 
-    // Why the entry of a number cannot be withdrawn.
-    pub fn kept(&self, number: u32) -> Result<(), Refusal>
-        requires { number < count_of self.now }
-        ensures { answer_of result ≡ kept (entry_at self.now number) (entries self.now) }
+    // Why an entry cannot be withdrawn.
+    pub fn kept(&self, e: Entry) -> Result<(), Refusal>
+        ensures { answer_of result ≡ kept (record_in e) (entries self.now) }
     {
-        let e = self.entry(number);
         if e.status != STANDING {
             return Err(Refusal::NoEntry);
         }

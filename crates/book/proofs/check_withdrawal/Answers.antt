@@ -1,7 +1,9 @@
 -- `book::check_withdrawal` meets its contract. Assumes nothing.
+use mathlib.Core.Path.{ap, ◌∙◌}
 use borrow.Author.Tests.{lt-ltb, le-ltb}
 use Rattle.std.proofs.lemmas.Result.{err_from_is_err_and}
-use Rattle.rules.specs.Words.{count_of}
+use Rattle.rules.specs.Entry.{record_in}
+use Rattle.rules.specs.Words.{entries, count_of}
 use Rattle.rules.proofs.CallLaws.{withdraw-cause}
 use Rattle.words.specs.Parts.{kept}
 use Rattle.book.proofs.check_withdrawal.Goals as goal
@@ -20,4 +22,4 @@ pub returns : goal.returns
 unfolding kept
 returns c =
     let a = c.args in
-    rw (withdraw-cause, c.in_ok-book.ensures.book, lt-ltb a.number (count_of a.book.now) (rw (c.count.ensures.count, c.in_ok-book.ensures.ok) at c.if-count-number.false)) (rw c.in_ok-book.ensures.ok at c.kept.ensures)
+    rw (withdraw-cause, c.in_ok-book.ensures.book, lt-ltb a.number (count_of a.book.now) (rw (c.count.ensures.count, c.in_ok-book.ensures.ok) at c.if-count-number.false)) (rw c.in_ok-book.ensures.ok at (c.kept.ensures ∙ ap (λ e. kept (record_in e) (entries c.in_ok-book.book)) c.entry.ensures.entry))
