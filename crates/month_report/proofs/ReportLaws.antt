@@ -36,6 +36,17 @@ pub refusing : {lent report : MonthReport} {n k : ℕ} → (lent ≡ refused_rep
 unfolding refused_report
 refusing p e = rw (p.0, p.1, e)
 
+-- a report whose figures are zero and whose lines are blank
+pub nothing-in : {lines : List ℕ} → lines ≡ blank report_figures →
+    ◌≡◌ {A = MonthReport} (record { answer = 0; month = 0; first_day = 0; days = 0; lines = lines }) (refused_report 0)
+unfolding refused_report blank
+nothing-in e = rw e refl
+
+-- a report without a figure has blank lines
+pub none-lent : {lent : MonthReport} → lent ≡ refused_report 0 → lent.lines ≡ blank report_figures
+unfolding refused_report blank
+none-lent q = ap (λ r. r.lines) q
+
 module _ (ws : List ℕ) (m : ℕ) {lent : MonthReport} (q : lent ≡ refused_report 0) where
   pub no-book : is_book ws ≡ false → IsReported (Err NotABook) lent (month_report ws m)
   unfolding month_report month_report_cause
@@ -44,10 +55,6 @@ module _ (ws : List ℕ) (m : ℕ) {lent : MonthReport} (q : lent ≡ refused_re
   pub no-month : is_book ws ≡ true → months ≤ m → IsReported (Err BadFigure) lent (month_report ws m)
   unfolding month_report month_report_cause
   no-month e l = rw (e, le-ltb m months l) (q, refl)
-
-  pub none-before : lent.lines ≡ blank report_figures
-  unfolding refused_report blank
-  none-before = ap (λ r. r.lines) q
 
   pub done : {first count : ℕ} {lines : List ℕ} → is_book ws ≡ true → m < months → first ≡ month_start m → count ≡ month_length m → lines ≡ lines_of first count (entries ws) →
       ◌≡◌ {A = MonthReport} (record { answer = lent.answer; month = m; first_day = first; days = count; lines = lines }) (month_report ws m)

@@ -1,8 +1,8 @@
 // Internal: a month report into a lent one, so that its 5,392 bytes are copied once and not by each caller.
 // A caller meets each `requires`.
 ghost use Rattle.std.specs.Prelude.{◌≡◌};
-ghost use Rattle.rules.specs.Refusals.{answer_of};
-ghost use Rattle.rules.specs.MonthReport.{refused_report, month_report_cause, month_report};
+ghost use Rattle.rules.specs.MonthReport.{report_figures, refused_report, month_report};
+ghost use Rattle.cells.specs.Cells.{blank};
 ghost use Rattle.month_report.specs.Reports.{IsReported};
 
 use crate::days::MonthDays;
@@ -37,10 +37,15 @@ fn fill(book: &[u32], month: u32, report: &mut MonthReport) -> Result<(), Refusa
     Ok(())
 }
 
+// The lines are zero before, and stay so where the report is refused.
 pub fn report_into(book: &[u32], month: u32, report: &mut MonthReport)
-    requires { report.old ≡ refused_report 0 }
+    requires { report.old.lines ≡ blank report_figures }
     ensures { report.new ≡ month_report book.now month }
 {
+    report.answer = 0;
+    report.month = 0;
+    report.first_day = 0;
+    report.days = 0;
     if let Err(refusal) = fill(book, month, report) {
         report.answer = u32::from(refusal);
     }

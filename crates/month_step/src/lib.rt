@@ -4,7 +4,7 @@
 pub mod figures;
 mod ranges;
 mod sizes;
-mod sums;
+pub mod sums;
 pub mod tables;
 
 ghost use Rattle.std.specs.Prelude.{◌≡◌};

@@ -1,7 +1,7 @@
 // Internal: the sums over month tables that no cause refuses (01, 'Month step'). A caller meets each `requires`.
-ghost use Rattle.std.specs.Prelude.{◌≡◌, ◌*◌, ◌≤◌, ◌-ℤ◌};
+ghost use Rattle.std.specs.Prelude.{◌≡◌, ◌-ℤ◌};
 ghost use Rattle.numbers.specs.Rounding.{half_up};
-ghost use Rattle.rules.specs.Month.{most_hours, most_rows, month_cause, month_figures};
+ghost use Rattle.rules.specs.Month.{month_cause, month_figures};
 ghost use Rattle.month_step.specs.Rows.{PricedRow, DmRow, row_weighted, row_weights, row_volume};
 ghost use Rattle.month_step.specs.Read.{read};
 
@@ -12,9 +12,9 @@ use case_figures::Month;
 
 // The two sums that AOSMF divides.
 #[derive(Clone, Copy)]
-struct Sums {
-    weighted: u64,
-    weights: u64,
+pub struct Sums {
+    pub weighted: u64,
+    pub weights: u64,
 }
 
 // AOSMF over all rows and AEDM of the group asked.
@@ -35,15 +35,16 @@ pub fn figures<P: Figures<u32>, V: Figures<i32>>(m: &MonthTables<P, V>) -> Month
     Month { aosmf, aedm }
 }
 
-// Σ|imbalance| × price and Σ|imbalance| of the row that starts at a place of the imbalance.
-fn row_sums<P: Figures<u32>, V: Figures<i32>>(prices: &P, imbalance: &V, at: usize) -> Sums
-    requires priced { PricedRow (P.figures prices.now) (V.figures imbalance.now) at }
-    requires of_month { at ≤ most_rows * most_hours }
+// Σ|imbalance| × price and Σ|imbalance| of the row that starts at a place of the imbalance. A place and an hour add up
+// to at most the count, a usize.
+pub fn row_sums<P: Figures<u32>, V: Figures<i32>>(prices: &P, imbalance: &V, at: usize) -> Sums
+    requires { PricedRow (P.figures prices.now) (V.figures imbalance.now) at }
     ensures weighted { result.weighted ≡ row_weighted (P.figures prices.now) (V.figures imbalance.now) at }
     ensures weights { result.weights ≡ row_weights (P.figures prices.now) (V.figures imbalance.now) at }
 {
     let mut weighted: u64 = 0;
     let mut weights: u64 = 0;
+    let _ = imbalance.count();
     for h in 0..prices.count() {
         let weight = u64::from(sizes::size(imbalance.figure(at + h)));
         weighted += weight * u64::from(prices.figure(h));
@@ -53,19 +54,19 @@ fn row_sums<P: Figures<u32>, V: Figures<i32>>(prices: &P, imbalance: &V, at: usi
 }
 
 // The weighted average, halves up; 0 where the weights are 0.
-fn average(weighted: u64, weights: u64) -> u64
+pub fn average(weighted: u64, weights: u64) -> u64
     ensures { result ≡ half_up weighted weights }
 {
     numbers::half_up(weighted, weights)
 }
 
 // Σ(imbalance − DM) of the row that starts at a place of the imbalance.
-fn row_volume<V: Figures<i32>>(imbalance: &V, at: usize, dm: &V) -> i64
-    requires beside_dm { DmRow (V.figures imbalance.now) at (V.figures dm.now) }
-    requires of_month { at ≤ most_rows * most_hours }
+pub fn row_volume<V: Figures<i32>>(imbalance: &V, at: usize, dm: &V) -> i64
+    requires { DmRow (V.figures imbalance.now) at (V.figures dm.now) }
     ensures { result ≡ row_volume (V.figures imbalance.now) at (V.figures dm.now) }
 {
     let mut volume: i64 = 0;
+    let _ = imbalance.count();
     for h in 0..dm.count() {
         volume += difference(imbalance.figure(at + h), dm.figure(h));
     }

@@ -1,6 +1,6 @@
 -- `month_report::lent::fill` meets its contract. Assumes nothing.
 use Rattle.std.proofs.lemmas.Result.{err_from_is_err_and}
-use Rattle.month_report.proofs.ReportLaws.{no-book, no-month, none-before, done}
+use Rattle.month_report.proofs.ReportLaws.{no-book, no-month, none-lent, done}
 use Rattle.month_report.proofs.lent.fill.Goals as goal
 
 pub returns-in_err-book : goal.returns-in_err-book
@@ -14,7 +14,7 @@ returns-in_err-days c =
     rw (p.1, p.2, c.in_err-days.ensures.err) (no-month _ _ c.requires c.in_ok-book.ensures.book c.in_err-days.ensures.past)
 
 pub fill-requires : goal.fill-requires
-fill-requires c = none-before c.args.book.now c.args.month c.requires
+fill-requires c = none-lent c.requires
 
 pub returns : goal.returns
 returns c =

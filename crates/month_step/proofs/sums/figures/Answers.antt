@@ -25,17 +25,13 @@ pub loop-row-init : goal.loop-row-init
 unfolding weighted_prices weights sum
 loop-row-init g c = (refl, refl)
 
-pub row_sums-sums-requires-clause-of_month : goal.row_sums-sums-requires-clause-of_month
-row_sums-sums-requires-clause-of_month g c =
-    rw c.count-hours.ensures (row-place _ (month-ranges _ c.requires) c.loop-row.row c.loop-row-test.true)
-
 pub overflow_mul-row : goal.overflow_mul-row
 overflow_mul-row g c =
     let h = row-place _ (month-ranges _ c.requires) c.loop-row.row c.loop-row-test.true in
     rw c.count-hours.ensures (omega arith)
 
-pub row_sums-sums-requires-clause-priced : goal.row_sums-sums-requires-clause-priced
-row_sums-sums-requires-clause-priced g c =
+pub row_sums-sums-requires : goal.row_sums-sums-requires
+row_sums-sums-requires g c =
     rw c.count-hours.ensures (priced _ (month-ranges _ c.requires) c.loop-row.row c.loop-row-test.true)
 
 pub overflow_add-weighted : goal.overflow_add-weighted
@@ -55,13 +51,8 @@ overflow_mul-m g c =
     let h = row-place _ r c.args.m.now.group r.group in
     rw c.count-hours.ensures (omega arith)
 
-pub row_volume-aedm-requires-clause-beside_dm : goal.row_volume-aedm-requires-clause-beside_dm
-row_volume-aedm-requires-clause-beside_dm g c = rw c.count-hours.ensures (beside_dm _ (month-ranges _ c.requires))
-
-pub row_volume-aedm-requires-clause-of_month : goal.row_volume-aedm-requires-clause-of_month
-row_volume-aedm-requires-clause-of_month g c =
-    let r = month-ranges _ c.requires in
-    rw c.count-hours.ensures (row-place _ r c.args.m.now.group r.group)
+pub row_volume-aedm-requires : goal.row_volume-aedm-requires
+row_volume-aedm-requires g c = rw c.count-hours.ensures (beside_dm _ (month-ranges _ c.requires))
 
 pub returns : goal.returns
 returns g c =

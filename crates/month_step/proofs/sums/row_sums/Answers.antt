@@ -15,7 +15,7 @@ turn : (g : Over) (c : After-from g) →
     c.from-weight.result c.from.result c.loop-h.weighted c.loop-h.weights
 turn g c =
     hour-priced _ _ c.args.at c.loop-h.h
-    c.requires.priced
+    c.requires
     (omega arith)
     (c.from-weight.ensures ∙ c.size.ensures ∙ ap nat_abs (exact32 c.figure.result c.figure.type_inv ∙ c.figure.ensures (pos 0)))
     (c.from.ensures ∙ c.figure-in-loop-h.ensures 0)

@@ -16,7 +16,7 @@ turn : (g : Over) (c : After-difference-volume g) →
     (to_z w64 c.loop-h.volume-bits) c.difference-volume.result
 turn g c =
     hour-less _ c.args.at _ c.loop-h.h
-    c.requires.beside_dm
+    c.requires
     (omega arith)
     c.loop-h.invariant
     c.difference-volume.ensures
