@@ -98,7 +98,7 @@ const MONTH_STARTS: [u16; 1201] = [
     36464, 36494, 36525,
 ];
 
-// The month of a day, counted from January 2000; 1200 for a day past the table.
+// The month of a day, counted from January 2000; 1200 for a day past the table, as the definition has it.
 pub fn month_of(day: u32) -> u32
     ensures { result ≡ month_of day }
 {

@@ -101,6 +101,7 @@ impl Case {
         }
     }
 
+    // A method for each figure: a caller names the one that it gives, as document 01 has a case put together.
     pub fn with_party(mut self, party: u32) -> Self
         ensures { result ≡ with_party self party }
     {

@@ -35,7 +35,8 @@ fn is_to_cancel(e: Entry, day: u32, flags: &Flags) -> bool
 }
 
 // The sales of flagged parties become cancelled, and are counted. The test has a use beside the branch, so that the compiler
-// makes one branch of it and not one of each part: those on type and day are mispredicted.
+// makes one branch of it and not one of each part: those on type and day are mispredicted. By number, as the store names
+// an entry; the words change under it, so no `Book` is lent here.
 fn cancel(book: &mut [u32], day: u32, flags: &Flags) -> u32
     requires { is_book book.old ≡ true }
     ensures cancelled { result ≡ count (is_to_cancel (flagged flags.now) day) (entries book.old) }

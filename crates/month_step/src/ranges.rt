@@ -46,7 +46,8 @@ fn places_ok(rows: u32, group: u32) -> bool
     (1 <= rows) & (rows <= MOST_ROWS) & (group < rows)
 }
 
-// Whether a test holds of each figure. No branch in the loop, as legal tables are read to the end.
+// Whether a test holds of each figure. No branch in the loop, as legal tables are read to the end. By place, since
+// words and bytes are both read so.
 fn each<T, F: Figures<T>, C: Fn(T) -> bool>(figures: &F, test: C) -> bool
     requires { C.IsAlwaysCallable test }
     ensures { (ok : T → Bool) → Tests (C.post test) ok → result ≡ all ok (F.figures figures.now) }

@@ -17,7 +17,7 @@ pub fn magnitude(x: i64) -> u64
     bits * (1 - below) + (LOWEST - bits) * below
 }
 
-// The larger of two figures.
+// The larger of two figures, by the library; docs/CALLS.md names it.
 pub fn larger(a: u64, b: u64) -> u64
     ensures { result ≡ max a b }
 {

@@ -1,5 +1,5 @@
 // The layout of a book's words and of a day file's (01, 'The words', 'Day file'). Figures are `u32`; where one is an index it is
-// taken `as usize`, to which no `From` leads.
+// taken `as usize`, to which no `From` leads, and a quotient or remainder that is known to fit is cut by `as`, which is proved.
 
 // A word's top four bits of 32 are its kind.
 pub const KIND: u32 = 268435456;
@@ -51,7 +51,8 @@ pub const PARTIES: u32 = 65536;
 
 pub const LINES: u32 = 4096;
 
-// Types and statuses with a rule of their own.
+// Types and statuses with a rule of their own. They are the paper's numbers in words, files and C figures alike, and scans compare
+// whole words: so they are no enums.
 pub const BILATERAL: u32 = 6;
 
 pub const MARK: u32 = 21;

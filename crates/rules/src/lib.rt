@@ -1,4 +1,5 @@
-// Document 01 as definitions (specs/) and the data types that calls take and answer.
+// Document 01 as definitions (specs/), the data types that calls take, refusals, and the answers. The structs that begin with an
+// `answer` are those of the C header: code passes results on, and `answers` makes the structs of them.
 #![tactic(auto)]
 
 use case_figures::Month;

@@ -57,7 +57,7 @@ impl<'a> Out<'a> {
     }
 }
 
-// One line for a refusal, as much of it as fits.
+// One line for a refusal, as much of it as fits. It has the cause's number: `text` knows no refusals.
 pub fn refused(cause: u32, out: &mut [u8]) -> usize
     ensures { Wrote out.old 0 (refusal cause) result out.new }
 {

@@ -21,7 +21,8 @@ pub fn word_at(bytes: &[u8], at: usize) -> u32
     u32::from_le_bytes([bytes[at], bytes[at + 1], bytes[at + 2], bytes[at + 3]])
 }
 
-// As many words as there is place for, which the bytes have. By index: what a loop over `iter_mut` leaves is not known.
+// As many words as there is place for, which the bytes have. By index: what an adapter of `iter_mut` leaves is not
+// known.
 pub fn read_words(bytes: &[u8], words: &mut [u32])
     requires { 4 * length words.old ≤ length bytes.now }
     ensures { words.new ≡ take (length words.old) (words_of bytes.now) }
