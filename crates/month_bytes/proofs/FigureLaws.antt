@@ -8,7 +8,7 @@ use lib.IntN.{ℤ, pos, negsuc, ◌-ℤ◌}
 use lib.ListN.{length, get_or, length-map, get_or-map}
 use mir.Syntax.{w32, w64}
 use mir.Val.{SFits, to_z, of_z}
-use mir.ValLaws.{to_z_pos, to_z-of_z}
+use mir.ValLaws.{to_z-of_z}
 use Rattle.std.proofs.lemmas.List.{get_or_default}
 use borrow.Author.Tests.{lt-ltb, le-ltb}
 use Rattle.numbers.proofs.TestLaws.{below-or-above}
@@ -21,17 +21,17 @@ use Rattle.month_bytes.specs.Tables.{signed_of, figures_of}
 -- a word less 2^32 where its highest bit is set, in the bits of the code
 module _ (w : ℕ) (f : w < 4294967296) where
   abbrev pub less_top : ℤ
-  less_top = to_z w64 w -ℤ to_z w64 (w / 2147483648 * 4294967296)
+  less_top = pos w -ℤ to_z w64 (w / 2147483648 * 4294967296)
 
   apart : (w < 2147483648) ⊎ (2147483648 ≤ w) → (less_top ≡ signed_of w) × SFits w32 (signed_of w)
   unfolding signed_of
   apart (inl h) =
       let top : w / 2147483648 * 4294967296 ≡ 0 = omega arith in
-      rw (lt-ltb w 2147483648 h) (rw (top, to_z_pos w64 w (omega arith)) (ap pos (omega arith)), record { sfits = h })
+      rw (lt-ltb w 2147483648 h) (rw top (ap pos (omega arith)), record { sfits = h })
   apart (inr h) =
       let top : w / 2147483648 * 4294967296 ≡ 4294967296 = omega arith in
       rw (le-ltb w 2147483648 h)
-      (rw (top, to_z_pos w64 w (omega arith)) (sub-below w 4294967296 f ∙ ap negsuc (omega arith)), record { sfits = omega arith })
+      (rw top (sub-below w 4294967296 f ∙ ap negsuc (omega arith)), record { sfits = omega arith })
 
   pub less-top : less_top ≡ signed_of w
   less-top = (apart (below-or-above w 2147483648)).0

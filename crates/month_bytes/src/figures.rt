@@ -50,5 +50,5 @@ impl Figures<i32> for InBytes<'_> {
 fn signed(word: u32) -> i32
     ensures { result ≡ signed_of word }
 {
-    (word as i64 - (word as u64 / 2147483648 * 4294967296) as i64) as i32
+    (i64::from(word) - (u64::from(word) / 2147483648 * 4294967296) as i64) as i32
 }
