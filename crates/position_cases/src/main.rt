@@ -14,6 +14,13 @@ fn ask<T, F: FnOnce(&[u32], u32, u32) -> T>(call: F, book: &[u32], row: Row) -> 
     call(book, low(party), low(day))
 }
 
+fn balances(book: &[u32], row: Row) -> [Result<i64, Refusal>; 2] {
+    [
+        ask(position::day_ahead, book, row),
+        ask(position::delivery, book, row),
+    ]
+}
+
 // The balance by sign and size, and whether it is detected.
 fn is_balance(answer: Result<i64, Refusal>, row: Row) -> bool {
     let [_, _, minus, size, detected, ..] = row.figures;
@@ -64,26 +71,16 @@ fn line(words: &mut [u32], row: Row, score: &mut Score) {
     };
     match row.call {
         b'B' => {
-            score.check(
-                row.line,
-                is_balance(ask(position::day_ahead, book, row), row),
-            );
-            score.check(
-                row.line,
-                is_balance(ask(position::delivery, book, row), row),
-            );
+            for balance in balances(book, row) {
+                score.check(row.line, is_balance(balance, row));
+            }
         }
         b'X' => {
             let cause = row.figures[2];
             score.check(row.line, is_refused(ask(position::tally, book, row), cause));
-            score.check(
-                row.line,
-                is_refused(ask(position::day_ahead, book, row), cause),
-            );
-            score.check(
-                row.line,
-                is_refused(ask(position::delivery, book, row), cause),
-            );
+            for balance in balances(book, row) {
+                score.check(row.line, is_refused(balance, cause));
+            }
         }
         _ => score.check(row.line, asked(book, row)),
     }
