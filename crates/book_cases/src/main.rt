@@ -5,7 +5,7 @@
 mod reads;
 mod writes;
 
-use caselist::answers::{cause, told};
+use caselist::answers::{is_refused, told};
 use caselist::book_words::{put, word};
 use caselist::pair::Pair;
 use caselist::rows::{Row, low};
@@ -18,7 +18,7 @@ fn posted(lent: &mut Pair, row: Row) -> bool {
 }
 
 fn post_refused(book: &mut [u32], row: Row) -> bool {
-    told(caselist::steps::post(book, row)) == (row.figures[5], 0)
+    is_refused(caselist::steps::post(book, row), row.figures[5])
 }
 
 fn withdrawn(lent: &mut Pair, row: Row) -> bool {
@@ -28,8 +28,8 @@ fn withdrawn(lent: &mut Pair, row: Row) -> bool {
 }
 
 fn withdrawal_refused(book: &mut [u32], row: Row) -> bool {
-    let [number, refusal, ..] = row.figures;
-    cause(book::withdraw(book, low(number))) == refusal
+    let [number, cause, ..] = row.figures;
+    is_refused(book::withdraw(book, low(number)), cause)
 }
 
 fn opened(lent: &mut Pair, row: Row) -> bool {
@@ -58,17 +58,15 @@ fn no_book(book: &mut [u32]) -> bool {
     read & (posted == Err(Refusal::NotABook)) & (withdrawn == Err(Refusal::NotABook))
 }
 
-// With one word changed in both, the slice is a book or not, and no word of it changes. Then the word is put back.
-fn changed(lent: &mut Pair, row: Row, legal: bool) -> bool {
+// With one word changed in both, the slice is judged, and no word of it changes. Then the word is put back.
+fn changed<F: FnOnce(&mut [u32]) -> bool>(lent: &mut Pair, row: Row, judge: F) -> bool
+    requires { F.IsAlwaysCallable judge }
+{
     let [at, w, ..] = row.figures;
     let at = low(at) as usize;
     let old = word(lent.expected, at);
     writes::both(lent, at, low(w));
-    let judged = if legal {
-        book::is_book(lent.book)
-    } else {
-        no_book(lent.book)
-    };
+    let judged = judge(lent.book);
     let same = lent.is_same();
     writes::both(lent, at, old);
     judged & same
@@ -82,11 +80,11 @@ fn call(lent: &mut Pair, row: Row) -> bool {
         b'W' => withdrawn(lent, row),
         b'V' => withdrawal_refused(lent.book, row),
         b'O' => opened(lent, row),
-        b'N' => cause(caselist::steps::open(lent.book, row)) == row.figures[2],
+        b'N' => is_refused(caselist::steps::open(lent.book, row), row.figures[2]),
         b'D' => opened_default(lent, row),
-        b'U' => cause(opening::open_default(lent.book)) == row.figures[0],
-        b'K' => changed(lent, row, true),
-        b'X' => changed(lent, row, false),
+        b'U' => is_refused(opening::open_default(lent.book), row.figures[0]),
+        b'K' => changed(lent, row, |book| book::is_book(book)),
+        b'X' => changed(lent, row, no_book),
         _ => reads::asked(lent.book, row),
     }
 }

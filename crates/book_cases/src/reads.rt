@@ -1,16 +1,21 @@
 // The calls that change nothing: count, one entry, is it a book.
 use caselist::answers::{is_refused, told};
 use caselist::rows::{Row, low};
-use rules::{Entry, Refusal};
+use rules::{Entry, Key, Refusal};
 
-fn is_entry(entry: Entry, row: Row) -> bool {
+// The entry that a row says, after its number.
+fn entry_of(row: Row) -> Entry {
     let [_, party, day, entry_type, counterparty, status, amount, ..] = row.figures;
-    (u64::from(entry.key.party) == party)
-        & (u64::from(entry.key.day) == day)
-        & (u64::from(entry.key.entry_type) == entry_type)
-        & (u64::from(entry.key.counterparty) == counterparty)
-        & (u64::from(entry.status) == status)
-        & (entry.amount == amount)
+    Entry {
+        key: Key {
+            party: low(party),
+            day: low(day),
+            entry_type: low(entry_type),
+            counterparty: low(counterparty),
+        },
+        status: low(status),
+        amount,
+    }
 }
 
 // Each refuses what is no book.
@@ -23,7 +28,7 @@ pub fn no_book(book: &[u32]) -> bool {
 pub fn asked(book: &[u32], row: Row) -> bool {
     let [first, second, ..] = row.figures;
     match row.call {
-        b'E' => book::entry(book, low(first)).is_ok_and(|entry| is_entry(entry, row)),
+        b'E' => book::entry(book, low(first)) == Ok(entry_of(row)),
         b'H' => is_refused(book::entry(book, low(first)), second),
         b'C' => told(book::count(book)) == (first, second),
         b'I' => u64::from(book::is_book(book)) == first,

@@ -1,17 +1,11 @@
 // The answer of a call as a list has it: a number, 0 where the call is done or else its cause's, and a figure, 0 beside a cause.
 use rules::Refusal;
-use rules::answers::answer_of;
 
 pub fn told<T: Into<u64>>(answer: Result<T, Refusal>) -> (u64, u64) {
     match answer {
         Ok(figure) => (0, figure.into()),
         Err(refusal) => (number(refusal), 0),
     }
-}
-
-// Of a call that is done without a figure.
-pub fn cause(answer: Result<(), Refusal>) -> u64 {
-    u64::from(answer_of(answer))
 }
 
 // Whether a call is refused by this cause.

@@ -4,19 +4,10 @@
 mod figures;
 
 use case_figures::Case;
-use caselist::answers::told;
+use caselist::answers::is_refused;
 use caselist::rows::Row;
 use caselist::score::Score;
 use rules::Items;
-
-const NOTHING: Items = Items {
-    margin: 0,
-    trading: 0,
-    imbalance: 0,
-    risk: 0,
-    yek: 0,
-    total: 0,
-};
 
 // A case with the figures of a row, each after its letter.
 fn with_all(case: Case, figures: &[u64]) -> Case {
@@ -41,11 +32,9 @@ fn done(book: &[u32], row: Row, case: Case) -> bool {
     collateral::collateral(book, asked) == Ok(items)
 }
 
-// The cause, and no other figure.
 fn refused(book: &[u32], row: Row, case: Case) -> bool {
     let asked = with_all(case, &row.figures[1..7]);
-    let other = collateral::collateral(book, asked).map(|items| items != NOTHING);
-    told(other) == (row.figures[0], 0)
+    is_refused(collateral::collateral(book, asked), row.figures[0])
 }
 
 // What a row asks, or a step that makes the book.

@@ -4,7 +4,7 @@
 
 mod writes;
 
-use caselist::answers::told;
+use caselist::answers::is_refused;
 use caselist::book_words::{named, standing};
 use caselist::pair::Pair;
 use caselist::rows::{Row, low};
@@ -29,32 +29,21 @@ fn withdraw(lent: &mut Pair, row: Row) -> bool {
     book::withdraw(lent.book, number).is_ok()
 }
 
-const NOTHING: Counts = Counts {
-    first: 0,
-    second: 0,
-    cancelled: 0,
-};
-
-// The counts of a control that is done.
-fn has_counts(counts: Counts, row: Row) -> bool {
-    let [_, first, second, cancelled, ..] = row.figures;
-    (u64::from(counts.first) == first)
-        & (u64::from(counts.second) == second)
-        & (u64::from(counts.cancelled) == cancelled)
-}
-
-// A control that is done leaves a mark.
+// A control that is done leaves a mark, and counts what the row says.
 fn done(lent: &mut Pair, row: Row) -> bool {
-    let [day, ..] = row.figures;
+    let [day, first, second, cancelled, ..] = row.figures;
     writes::append(lent.expected, standing(0, day, 21, 0));
-    control::control(lent.book, low(day)).is_ok_and(|counts| has_counts(counts, row))
+    let counts = Counts {
+        first: low(first),
+        second: low(second),
+        cancelled: low(cancelled),
+    };
+    control::control(lent.book, low(day)) == Ok(counts)
 }
 
-// A refused control: its cause, and every other figure zero.
 fn refused(book: &mut [u32], row: Row) -> bool {
     let [day, cause, ..] = row.figures;
-    let other = control::control(book, low(day)).map(|counts| counts != NOTHING);
-    told(other) == (cause, 0)
+    is_refused(control::control(book, low(day)), cause)
 }
 
 // The calls, by letter. One that must be refused leaves the expected words as they are.

@@ -5,7 +5,7 @@
 mod table;
 
 use case_figures::Month;
-use caselist::answers::told;
+use caselist::answers::{is_refused, told};
 use caselist::rows::{Row, low, signed_low};
 use caselist::score::Score;
 use rules::Refusal;
@@ -30,13 +30,7 @@ fn stepped(tables: &Tables, row: Row) -> Option<Result<Month, Refusal>> {
 
 fn has_figures(answer: Result<Month, Refusal>, row: Row) -> bool {
     let [_, _, aosmf, aedm, ..] = row.figures;
-    answer.is_ok_and(|month| (month.aosmf == aosmf) & (month.aedm == aedm.cast_signed()))
-}
-
-// The cause, and both figures zero.
-fn has_cause(answer: Result<Month, Refusal>, row: Row) -> bool {
-    let other = answer.map(|month| (month.aosmf != 0) | (month.aedm != 0));
-    told(other) == (row.figures[2], 0)
+    answer.is_ok_and(|month| (month.aosmf, month.aedm) == (aosmf, aedm.cast_signed()))
 }
 
 // An offer beside N, V and G: the answer, and 1 where it is recordable.
@@ -58,18 +52,14 @@ fn sized(row: Row) -> bool {
     numbers::magnitude(figure.cast_signed()) == size
 }
 
-fn add_prices(prices: &mut Table<u32>, row: Row) {
-    let [n, price, m, second, k, third, ..] = row.figures;
-    prices.add(n, low(price));
-    prices.add(m, low(second));
-    prices.add(k, low(third));
-}
-
-fn add_volumes(volumes: &mut Table<i32>, row: Row) {
-    let [n, volume, m, second, k, third, ..] = row.figures;
-    volumes.add(n, signed_low(volume));
-    volumes.add(m, signed_low(second));
-    volumes.add(k, signed_low(third));
+// Three figures of a row, each so many times, as a table of this type has them.
+fn add<T: Copy, F: Fn(u64) -> T>(table: &mut Table<T>, row: Row, figure: F)
+    requires { F.IsAlwaysCallable figure }
+{
+    let [n, first, m, second, k, third, ..] = row.figures;
+    table.add(n, figure(first));
+    table.add(m, figure(second));
+    table.add(k, figure(third));
 }
 
 fn clear(tables: &mut Tables) {
@@ -82,13 +72,13 @@ fn clear(tables: &mut Tables) {
 fn line(tables: &mut Tables, row: Row, score: &mut Score) {
     let holds = match row.call {
         b'N' => return clear(tables),
-        b'P' => return add_prices(&mut tables.prices, row),
-        b'I' => return add_volumes(&mut tables.imbalance, row),
-        b'S' => return add_volumes(&mut tables.dm, row),
+        b'P' => return add(&mut tables.prices, row, low),
+        b'I' => return add(&mut tables.imbalance, row, signed_low),
+        b'S' => return add(&mut tables.dm, row, signed_low),
         b'J' => return tables.imbalance.count_up(row.figures[0]),
         b'T' => return tables.dm.count_up(row.figures[0]),
         b'Q' => stepped(tables, row).is_some_and(|answer| has_figures(answer, row)),
-        b'R' => stepped(tables, row).is_some_and(|answer| has_cause(answer, row)),
+        b'R' => stepped(tables, row).is_some_and(|answer| is_refused(answer, row.figures[2])),
         b'O' => offered(row),
         b'D' => begun(row),
         b'A' => sized(row),

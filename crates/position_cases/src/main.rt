@@ -1,19 +1,24 @@
 // Both balances and the tally against the list on standard input, whose figures are worked out by hand from document 01.
 #![tactic(auto)]
 
-use caselist::answers::{is_refused, told};
+use caselist::answers::is_refused;
 use caselist::rows::{Row, low};
 use caselist::score::Score;
 use rules::{PartyDay, Refusal};
 
-fn day_ahead(book: &[u32], row: Row) -> Result<i64, Refusal> {
+// A call on the party and the day of a row.
+fn ask<T, F: FnOnce(&[u32], u32, u32) -> T>(call: F, book: &[u32], row: Row) -> T
+    requires { F.IsAlwaysCallable call }
+{
     let [party, day, ..] = row.figures;
-    position::day_ahead(book, low(party), low(day))
+    call(book, low(party), low(day))
 }
 
-fn delivery(book: &[u32], row: Row) -> Result<i64, Refusal> {
-    let [party, day, ..] = row.figures;
-    position::delivery(book, low(party), low(day))
+fn balances(book: &[u32], row: Row) -> [Result<i64, Refusal>; 2] {
+    [
+        ask(position::day_ahead, book, row),
+        ask(position::delivery, book, row),
+    ]
 }
 
 // The balance by sign and size, and whether it is detected.
@@ -24,16 +29,6 @@ fn is_balance(answer: Result<i64, Refusal>, row: Row) -> bool {
             & (balance.unsigned_abs() == size)
             & (position::detected(balance) == (detected == 1))
     })
-}
-
-// The cause, and no balance.
-fn no_balance(answer: Result<i64, Refusal>, row: Row) -> bool {
-    told(answer.map(|balance| balance.unsigned_abs())) == (row.figures[2], 0)
-}
-
-fn tally(book: &[u32], row: Row) -> Result<PartyDay, Refusal> {
-    let [party, day, ..] = row.figures;
-    position::tally(book, low(party), low(day))
 }
 
 // The sum of a type, or B where the type is 0.
@@ -61,10 +56,10 @@ fn has_none(got: PartyDay, row: Row) -> bool {
 // What a row asks of one call, or a step that makes the book.
 fn asked(book: &mut [u32], row: Row) -> bool {
     match row.call {
-        b'D' => is_balance(day_ahead(book, row), row),
-        b'E' => is_balance(delivery(book, row), row),
-        b'S' => tally(book, row).is_ok_and(|got| has_sum(got, row)),
-        b'N' => tally(book, row).is_ok_and(|got| has_none(got, row)),
+        b'D' => is_balance(ask(position::day_ahead, book, row), row),
+        b'E' => is_balance(ask(position::delivery, book, row), row),
+        b'S' => ask(position::tally, book, row).is_ok_and(|got| has_sum(got, row)),
+        b'N' => ask(position::tally, book, row).is_ok_and(|got| has_none(got, row)),
         _ => caselist::steps::make(book, row),
     }
 }
@@ -76,13 +71,16 @@ fn line(words: &mut [u32], row: Row, score: &mut Score) {
     };
     match row.call {
         b'B' => {
-            score.check(row.line, is_balance(day_ahead(book, row), row));
-            score.check(row.line, is_balance(delivery(book, row), row));
+            for balance in balances(book, row) {
+                score.check(row.line, is_balance(balance, row));
+            }
         }
         b'X' => {
-            score.check(row.line, is_refused(tally(book, row), row.figures[2]));
-            score.check(row.line, no_balance(day_ahead(book, row), row));
-            score.check(row.line, no_balance(delivery(book, row), row));
+            let cause = row.figures[2];
+            score.check(row.line, is_refused(ask(position::tally, book, row), cause));
+            for balance in balances(book, row) {
+                score.check(row.line, is_refused(balance, cause));
+            }
         }
         _ => score.check(row.line, asked(book, row)),
     }
