@@ -35,7 +35,8 @@ pub fn figures<P: Figures<u32>, V: Figures<i32>>(m: &MonthTables<P, V>) -> Month
     Month { aosmf, aedm }
 }
 
-// Σ|imbalance| × price and Σ|imbalance| of the row that starts at a place of the imbalance.
+// Σ|imbalance| × price and Σ|imbalance| of the row that starts at a place of the imbalance. A place and an hour add up
+// to at most the count, a usize.
 pub fn row_sums<P: Figures<u32>, V: Figures<i32>>(prices: &P, imbalance: &V, at: usize) -> Sums
     requires { PricedRow (P.figures prices.now) (V.figures imbalance.now) at }
     ensures weighted { result.weighted ≡ row_weighted (P.figures prices.now) (V.figures imbalance.now) at }
@@ -43,7 +44,6 @@ pub fn row_sums<P: Figures<u32>, V: Figures<i32>>(prices: &P, imbalance: &V, at:
 {
     let mut weighted: u64 = 0;
     let mut weights: u64 = 0;
-    // The count is a usize, and no place read is above it: so `at + h` does not wrap.
     let _ = imbalance.count();
     for h in 0..prices.count() {
         let weight = u64::from(sizes::size(imbalance.figure(at + h)));
@@ -66,7 +66,6 @@ pub fn row_volume<V: Figures<i32>>(imbalance: &V, at: usize, dm: &V) -> i64
     ensures { result ≡ row_volume (V.figures imbalance.now) at (V.figures dm.now) }
 {
     let mut volume: i64 = 0;
-    // As above.
     let _ = imbalance.count();
     for h in 0..dm.count() {
         volume += difference(imbalance.figure(at + h), dm.figure(h));
