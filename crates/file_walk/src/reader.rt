@@ -1,6 +1,7 @@
 // The reader of a day file carries the lent bytes and how far it has come (01, 'Day file'). A step takes a word and gives the reader
 // further on; a block's head is two steps of one reader, a line three.
-// The methods are thin: `found_at`, on a slice and a number, does the decoding, and callers without a reader use `words_from`.
+// The methods are thin: `found_at`, on a slice and a number, does the decoding, and callers without a reader, as a walk by a cursor,
+// use `words_from`.
 ghost use Rattle.std.specs.Prelude.{◌≡◌};
 ghost use Rattle.file_walk.specs.Read.{found_at, taken_by, words_by, words_from};
 

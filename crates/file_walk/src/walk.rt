@@ -1,10 +1,12 @@
-// The walks of a day file's bytes: its items in order, and whether its blocks and lines have their form.
-ghost use Rattle.std.specs.Prelude.{◌≡◌, ◌<◌, [], MatchOption};
+// The walks of a day file's bytes: its items in order, whether its blocks and lines have their form, and, internal, a walk by a cursor.
+// A caller of the internal functions meets each `requires`.
+ghost use Rattle.std.specs.Prelude.{◌≡◌, true, ◌+◌, ◌≤◌, ◌<◌, [], length, MatchOption};
 ghost use Rattle.std.specs.Iterator.{YieldsFirstBy, item_count};
 ghost use Rattle.rules.specs.DayFile.{head_item, is_head, is_line, is_shaped, items, words_of};
-ghost use Rattle.file_walk.specs.Walk.{item_in, left_items, head_past, line_past, passed_on};
+ghost use Rattle.file_walk.specs.Walk.{item_in, left_items, start, is_more, head_at, past_step, line_at, head_past, line_past, passed_on};
 
-use crate::reader::Reader;
+use crate::reader::{Reader, words_from};
+use crate::{Cursor, Line};
 use rules::Key;
 use rules::layout::{HIGH_AMOUNT, KIND, LOW_AMOUNT, PARTIES, STATUS, TYPES};
 
@@ -90,6 +92,83 @@ impl<'a> Iterator for Items<'a> {
             }
         }
         self.next_line()
+    }
+}
+
+// Where a walk by a cursor begins.
+pub fn begin() -> Cursor
+    ensures { result ≡ start }
+{
+    Cursor {
+        at: 0,
+        left: 0,
+        party: 0,
+        day: 0,
+    }
+}
+
+// Whether the next head or line is whole.
+#[tactic(auto, unfolding(crate::specs::Walk::is_more))]
+pub fn more(file: &[u8], c: Cursor) -> bool
+    requires { c.at ≤ length file.now }
+    ensures { result ≡ is_more file.now c }
+{
+    let rest = file.len() - c.at;
+    if c.left == 0 { 8 <= rest } else { 12 <= rest }
+}
+
+// The cursor past the block's head at a byte.
+#[tactic(auto, using(crate::proofs::ReadLaws::found_word), unfolding(crate::specs::Walk::head_at))]
+pub fn head_at(file: &[u8], at: usize) -> Cursor
+    requires { at + 8 ≤ length file.now }
+    ensures { result ≡ head_at file.now at }
+{
+    let [first, second] = words_from::<2>(file, at);
+    let (first, second) = (first.unwrap() % KIND, second.unwrap() % KIND);
+    Cursor {
+        at: at + 8,
+        left: first / PARTIES,
+        party: first % PARTIES,
+        day: second,
+    }
+}
+
+// The line that a walk has come to.
+#[tactic(auto, using(crate::proofs::ReadLaws::found_word), unfolding(crate::specs::Walk::line_at))]
+pub fn line_at(file: &[u8], c: Cursor) -> Line
+    requires { c.at + 12 ≤ length file.now }
+    ensures { result ≡ line_at file.now c }
+{
+    let [named, low, high] = words_from::<3>(file, c.at);
+    let (named, low, high) = (
+        named.unwrap() % KIND,
+        low.unwrap() % KIND,
+        high.unwrap() % KIND,
+    );
+    Line {
+        key: Key {
+            party: c.party,
+            day: c.day,
+            entry_type: named % TYPES,
+            counterparty: named / TYPES,
+        },
+        amount: u64::from(low) + u64::from(high) * LOW_AMOUNT,
+    }
+}
+
+// One head or line further.
+#[tactic(auto, unfolding(crate::specs::Walk::is_more, crate::specs::Walk::past_step))]
+pub fn advance(file: &[u8], c: Cursor) -> Cursor
+    requires { is_more file.now c ≡ true }
+    ensures { result ≡ past_step file.now c }
+{
+    if c.left == 0 {
+        return head_at(file, c.at);
+    }
+    Cursor {
+        at: c.at + 12,
+        left: c.left - 1,
+        ..c
     }
 }
 
