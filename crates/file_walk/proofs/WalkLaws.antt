@@ -3,7 +3,7 @@ use mathlib.Core.Path.{◌≡◌, refl, ap, ◌∙◌}
 use mathlib.Core.Logic.{◌⊎◌, inl, inr}
 use mathlib.Core.Bool.{Bool, true, false, cond, ◌&&◌}
 use mathlib.Core.List.{List, [], ◌∷◌}
-use Prim.Native.Nat.{ℕ, zero, suc, ◌+◌, ◌-◌, ◌*◌, ◌/◌, ◌%◌, ◌≤◌, ◌<◌}
+use Prim.Native.Nat.{ℕ, zero, suc, ◌+◌, ◌-◌, ◌*◌, ◌/◌, ◌%◌, ◌≤◌, ◌<◌, zero-le}
 use native.Mathlib.Numerals.{add-one, add-two, add-three, add-four}
 use native.Mathlib.Omega.{arith}
 use lib.ListN.{length, get_or, drop, length-drop}
@@ -137,6 +137,19 @@ pub pass-shape : (r : Reader) (left : ℕ) → shape (passed_on r left).form (wo
 pass-shape r zero = rw (words-seen 2 r) (head-shape _ _ (words_left (words_by 2 r).0))
 pass-shape r (suc n) = rw (words-seen 3 r) (line-shape n _ _ _ (words_left (words_by 3 r).0))
 
+-- a reader stays within its bytes, also where it finds no word
+within-by : (n : ℕ) (r : Reader) → r.at ≤ length r.bytes.now → (words_by n r).0.at ≤ length r.bytes.now
+within-by zero r h = h
+within-by (suc n) r h =
+    elim (below-or-above (length r.bytes.now) (r.at + 4)) [
+      | inl l ↦ rw (found_none r.bytes.now r.at l) (within-by n r h)
+      | inr m ↦ rw (found_word r.bytes.now r.at m) (within-by n (record { bytes = r.bytes; at = r.at + 4 }) m)
+    ]
+
+within-on : (r : Reader) (left : ℕ) → r.at ≤ length r.bytes.now → (passed_on r left).reader.at ≤ length r.bytes.now
+within-on r zero h = within-by 2 r h
+within-on r (suc n) h = within-by 3 r h
+
 -- where the form goes on, all words were whole, and the reader has come further within its bytes
 pub further : (r : Reader) (left : ℕ) {k : ℕ} → (passed_on r left).form ≡ Open k → (r.at < (passed_on r left).reader.at) × ((passed_on r left).reader.at ≤ length r.bytes.now)
 further r zero e =
@@ -167,10 +180,29 @@ same-bytes : (r : Reader) (left : ℕ) → (passed_on r left).reader.bytes ≡ r
 same-bytes r zero = refl
 same-bytes r (suc n) = refl
 
--- a pass over the bytes bs, in a walk of the whole file: what is left decides
+-- a pass over the bytes bs, in a walk of the whole file: it is within them, and what is left decides
 pub record Along (bs : List ℕ) (p : Pass) : Type 0 where
   pub bytes : p.reader.bytes.now ≡ bs
+  pub within : p.reader.at ≤ length bs
   pub same : shape p.form (words_left p.reader) ≡ is_shaped 0 (words_of bs)
+
+-- where a pass begins
+pub along-start : (bs : List ℕ) (r : Reader) → r.bytes.now ≡ bs → r.at ≡ 0 → Along bs (record { reader = r; form = Open 0 })
+along-start bs r b z = record { bytes = b; within = rw z zero-le; same = rw (z, b) }
+
+-- where it ends
+abbrev pub has_ended : Form → Bool
+has_ended (Open n) = false
+has_ended Ended = true
+has_ended Broken = false
+
+pub along-end : {bs : List ℕ} {p : Pass} → Along bs p → ((n : ℕ) → p.form ≡ Open n → ⊥) → has_ended p.form ≡ is_shaped 0 (words_of bs)
+along-end {bs} {p} a off = go p.form off a.same
+  where
+    go : (f : Form) → ((n : ℕ) → f ≡ Open n → ⊥) → shape f (words_left p.reader) ≡ is_shaped 0 (words_of bs) → has_ended f ≡ is_shaped 0 (words_of bs)
+    go (Open n) off e = absurd (off n refl)
+    go Ended off e = e
+    go Broken off e = e
 
 -- how much of it is left to read
 abbrev pub unread : Form → ℕ → ℕ
@@ -186,6 +218,7 @@ module _ {bs : List ℕ} {p : Pass} (a : Along bs p) {left : ℕ} (on : p.form �
   along-on =
       record {
         bytes = rw e (ap (λ (b : Bor (List ℕ)). b.now) (same-bytes p.reader left) ∙ a.bytes);
+        within = rw (e, ← a.bytes) (within-on p.reader left (rw a.bytes a.within));
         same = rw e (pass-shape p.reader left ∙ (rw on at a).same);
       }
 
