@@ -4,7 +4,7 @@ use mathlib.Core.Bool.{Bool, true, false, cond}
 use Rattle.std.proofs.Common.{Result, Ok, Err}
 use mathlib.Core.List.{List, [], ◌∷◌}
 use Prim.Native.Nat.{ℕ, suc, ◌+◌, ◌*◌, ◌/◌, ◌%◌, ◌≤◌, ◌<◌}
-use native.Mathlib.Nat.{div-div-eq-div-mul}
+use native.Mathlib.Nat.{add-zero, div-div-eq-div-mul}
 use native.Mathlib.Omega.{arith}
 use lib.Dec.{leb, ltb}
 use lib.ListN.{length, get_or, set, length-set}
@@ -14,7 +14,7 @@ use Rattle.numbers.specs.Causes.{unless}
 use Rattle.numbers.proofs.TestLaws.{every_holds}
 use Rattle.numbers.proofs.CauseLaws.{unless-zero, clear-all}
 use Rattle.rules.specs.Entry.{key_of}
-use Rattle.rules.specs.Words.{values, types, counterparties, status_unit, low_amounts, value_of, type_bits}
+use Rattle.rules.specs.Words.{values, types, counterparties, status_unit, low_amounts, word, value_of, type_bits}
 use Rattle.rules.specs.DayFile.{parties, high_amounts, line, lines_in, party_in, is_head, is_line, items_from}
 use Rattle.rules.proofs.WordLaws.{word-kind, word_value}
 use Rattle.rules.specs.declared.refusal.Refusal.{Refusal}
@@ -38,6 +38,25 @@ line-in t c a e =
 of-done : {A : Type 0} (b : Bool) {x y : A} → ◌≡◌ {A = Result A Refusal} (cond b (Ok x) (Err BadFigure)) (Ok y) → (b ≡ true) × (x ≡ y)
 of-done true e = (refl, cc)
 of-done false e = absurd (cc)
+
+-- what is written of figures that fit their bits, and that others are refused
+module _ (p d n : ℕ) where
+  pub head-refused : head_fits p d n ≡ false → ◌≡◌ {A = Result HeadWords Refusal} (Err BadFigure) (head_words p d n)
+  unfolding head_words
+  head-refused e = rw e
+
+  pub head-written : head_fits p d n ≡ true → ◌≡◌ {A = Result HeadWords Refusal} (Ok (record { first = word 1 (p + n * parties); second = word 2 d })) (head_words p d n)
+  unfolding head_words
+  head-written e = rw e
+
+module _ (t c a : ℕ) where
+  pub line_refused : line_fits t c a ≡ false → ◌≡◌ {A = Result LineWords Refusal} (Err BadFigure) (line_words t c a)
+  unfolding line_words
+  line_refused e = rw e
+
+  pub line-written : line_fits t c a ≡ true → ◌≡◌ {A = Result LineWords Refusal} (Ok (record { figures = word 3 (t + c * types); low = word 4 (a % low_amounts); high = word 5 (a / low_amounts) })) (line_words t c a)
+  unfolding line_words
+  line-written e = rw (e, add-zero (t + c * types))
 
 -- a head that was written is a head, and its figures are read back
 pub record HeadBack (p d n : ℕ) (w : HeadWords) : Type 0 where
