@@ -24,8 +24,7 @@ fn holds(line: &[u8]) -> bool {
     let Some((month, argument)) = at_space(rest) else {
         return false;
     };
-    let named = month_argument::month_named(number(arguments) as usize, argument);
-    named.unwrap_or(month_argument::NO_MONTH) == number(month)
+    month_argument::month_asked(number(arguments) as usize, argument) == number(month)
 }
 
 fn main(rt: HostRuntime) {

@@ -18,7 +18,7 @@ fn posted(lent: &mut Pair, row: Row) -> bool {
 }
 
 fn post_refused(book: &mut [u32], row: Row) -> bool {
-    is_refused(caselist::steps::post(book, row), row.figures[5])
+    is_refused(caselist::steps::post(book, row), row.figures[5], 0)
 }
 
 fn withdrawn(lent: &mut Pair, row: Row) -> bool {
@@ -29,7 +29,7 @@ fn withdrawn(lent: &mut Pair, row: Row) -> bool {
 
 fn withdrawal_refused(book: &mut [u32], row: Row) -> bool {
     let [number, cause, ..] = row.figures;
-    is_refused(book::withdraw(book, low(number)), cause)
+    is_refused(book::withdraw(book, low(number)), cause, ())
 }
 
 fn opened(lent: &mut Pair, row: Row) -> bool {
@@ -80,9 +80,9 @@ fn call(lent: &mut Pair, row: Row) -> bool {
         b'W' => withdrawn(lent, row),
         b'V' => withdrawal_refused(lent.book, row),
         b'O' => opened(lent, row),
-        b'N' => is_refused(caselist::steps::open(lent.book, row), row.figures[2]),
+        b'N' => is_refused(caselist::steps::open(lent.book, row), row.figures[2], ()),
         b'D' => opened_default(lent, row),
-        b'U' => is_refused(opening::open_default(lent.book), row.figures[0]),
+        b'U' => is_refused(opening::open_default(lent.book), row.figures[0], ()),
         b'K' => changed(lent, row, |book| book::is_book(book)),
         b'X' => changed(lent, row, no_book),
         _ => reads::asked(lent.book, row),

@@ -8,9 +8,12 @@ pub fn told<T: Into<u64>>(answer: Result<T, Refusal>) -> (u64, u64) {
     }
 }
 
-// Whether a call is refused by this cause.
-pub fn is_refused<T: Drop>(answer: Result<T, Refusal>, cause: u64) -> bool {
-    answer.is_err_and(|refusal| number(refusal) == cause)
+// Whether a call answers by this number, and every figure is zero: a done call by 0, a refused one by its cause's.
+pub fn is_refused<T: PartialEq + Drop>(answer: Result<T, Refusal>, cause: u64, zero: T) -> bool {
+    match answer {
+        Ok(figures) => (cause == 0) & (figures == zero),
+        Err(refusal) => number(refusal) == cause,
+    }
 }
 
 fn number(refusal: Refusal) -> u64 {

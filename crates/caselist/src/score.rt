@@ -5,12 +5,12 @@ use std::io::{Read, Stdout};
 // A list has this many rows: each further one is blank, and so wrong.
 const MOST_ROWS: usize = 1000;
 
-#[derive(Drop)]
+#[derive(Clone, Copy)]
 pub struct Score {
-    out: Stdout,
-    lent: usize,
-    checks: u64,
-    wrong: u64,
+    pub out: Stdout,
+    pub lent: usize,
+    pub checks: u64,
+    pub wrong: u64,
 }
 
 impl Score {

@@ -9,6 +9,15 @@ use caselist::rows::Row;
 use caselist::score::Score;
 use rules::Items;
 
+const NO_ITEMS: Items = Items {
+    margin: 0,
+    trading: 0,
+    imbalance: 0,
+    risk: 0,
+    yek: 0,
+    total: 0,
+};
+
 // A case with the figures of a row, each after its letter.
 fn with_all(case: Case, figures: &[u64]) -> Case {
     figures.chunks_exact(2).fold(
@@ -34,7 +43,11 @@ fn done(book: &[u32], row: Row, case: Case) -> bool {
 
 fn refused(book: &[u32], row: Row, case: Case) -> bool {
     let asked = with_all(case, &row.figures[1..7]);
-    is_refused(collateral::collateral(book, asked), row.figures[0])
+    is_refused(
+        collateral::collateral(book, asked),
+        row.figures[0],
+        NO_ITEMS,
+    )
 }
 
 // What a row asks, or a step that makes the book.

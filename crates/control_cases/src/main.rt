@@ -29,21 +29,25 @@ fn withdraw(lent: &mut Pair, row: Row) -> bool {
     book::withdraw(lent.book, number).is_ok()
 }
 
+// The counts of a control in the order of a row.
+fn figures(counts: Counts) -> [u64; 3] {
+    [
+        u64::from(counts.first),
+        u64::from(counts.second),
+        u64::from(counts.cancelled),
+    ]
+}
+
 // A control that is done leaves a mark, and counts what the row says.
 fn done(lent: &mut Pair, row: Row) -> bool {
     let [day, first, second, cancelled, ..] = row.figures;
     writes::append(lent.expected, standing(0, day, 21, 0));
-    let counts = Counts {
-        first: low(first),
-        second: low(second),
-        cancelled: low(cancelled),
-    };
-    control::control(lent.book, low(day)) == Ok(counts)
+    control::control(lent.book, low(day)).map(figures) == Ok([first, second, cancelled])
 }
 
 fn refused(book: &mut [u32], row: Row) -> bool {
     let [day, cause, ..] = row.figures;
-    is_refused(control::control(book, low(day)), cause)
+    is_refused(control::control(book, low(day)).map(figures), cause, [0; 3])
 }
 
 // The calls, by letter. One that must be refused leaves the expected words as they are.

@@ -23,9 +23,7 @@ fn arguments(rt: &impl Env) -> usize {
 fn month(rt: &impl Env) -> u32 {
     let mut argument = [0u8; MOST_ARGUMENT];
     let size = rt.arg(1, &mut argument).unwrap_or(0);
-    month_argument::month_named(arguments(rt), &argument[..size]).unwrap_or(
-        month_argument::NO_MONTH,
-    )
+    month_argument::month_asked(arguments(rt), &argument[..size])
 }
 
 fn main(rt: HostRuntime) {

@@ -47,3 +47,10 @@ pub fn month_named(arguments: usize, argument: &[u8]) -> Option<u32>
     }
     month_of(argument)
 }
+
+// The month that the program takes for its arguments: NO_MONTH where they name none.
+pub fn month_asked(arguments: usize, argument: &[u8]) -> u32
+    ensures { result ≡ month_named arguments argument.now }
+{
+    month_named(arguments, argument).unwrap_or(NO_MONTH)
+}

@@ -19,18 +19,28 @@ struct Tables<'a> {
     dm: Table<'a, i32>,
 }
 
+// The average price and the imbalance of a month.
+fn figures(month: Month) -> (u64, i64) {
+    (month.aosmf, month.aedm)
+}
+
 // The month step on the tables as they stand, where the list has not more figures than they have places.
-fn stepped(tables: &Tables, row: Row) -> Option<Result<Month, Refusal>> {
+fn stepped(tables: &Tables, row: Row) -> Option<Result<(u64, i64), Refusal>> {
     let [rows, group, ..] = row.figures;
     let prices = tables.prices.figures()?;
     let imbalance = tables.imbalance.figures()?;
     let dm = tables.dm.figures()?;
-    Some(month_step::month_step(prices, imbalance, low(rows), dm, low(group)))
+    let answer = month_step::month_step(prices, imbalance, low(rows), dm, low(group));
+    Some(answer.map(figures))
 }
 
-fn has_figures(answer: Result<Month, Refusal>, row: Row) -> bool {
+fn has_figures(answer: Result<(u64, i64), Refusal>, row: Row) -> bool {
     let [_, _, aosmf, aedm, ..] = row.figures;
-    answer.is_ok_and(|month| (month.aosmf, month.aedm) == (aosmf, aedm.cast_signed()))
+    answer == Ok((aosmf, aedm.cast_signed()))
+}
+
+fn has_cause(answer: Result<(u64, i64), Refusal>, row: Row) -> bool {
+    is_refused(answer, row.figures[2], (0, 0))
 }
 
 // An offer beside N, V and G: the answer, and 1 where it is recordable.
@@ -78,7 +88,7 @@ fn line(tables: &mut Tables, row: Row, score: &mut Score) {
         b'J' => return tables.imbalance.count_up(row.figures[0]),
         b'T' => return tables.dm.count_up(row.figures[0]),
         b'Q' => stepped(tables, row).is_some_and(|answer| has_figures(answer, row)),
-        b'R' => stepped(tables, row).is_some_and(|answer| is_refused(answer, row.figures[2])),
+        b'R' => stepped(tables, row).is_some_and(|answer| has_cause(answer, row)),
         b'O' => offered(row),
         b'D' => begun(row),
         b'A' => sized(row),

@@ -4,7 +4,7 @@
 use caselist::answers::is_refused;
 use caselist::rows::{Row, low};
 use caselist::score::Score;
-use rules::{PartyDay, Refusal};
+use rules::{PartyDay, Refusal, SUMS};
 
 // A call on the party and the day of a row.
 fn ask<T, F: FnOnce(&[u32], u32, u32) -> T>(call: F, book: &[u32], row: Row) -> T
@@ -53,6 +53,17 @@ fn has_none(got: PartyDay, row: Row) -> bool {
         & got.tally.sums.iter().all(|sum| *sum == 0)
 }
 
+fn figures(got: PartyDay) -> (u32, u64, [u64; SUMS]) {
+    let sums = got.tally.sums;
+    (got.tally.party, got.bought, sums)
+}
+
+// The cause, and every figure of the tally zero.
+fn tally_refused(book: &[u32], row: Row) -> bool {
+    let answer = ask(position::tally, book, row);
+    is_refused(answer.map(figures), row.figures[2], (0, 0, [0; SUMS]))
+}
+
 // What a row asks of one call, or a step that makes the book.
 fn asked(book: &mut [u32], row: Row) -> bool {
     match row.call {
@@ -76,10 +87,9 @@ fn line(words: &mut [u32], row: Row, score: &mut Score) {
             }
         }
         b'X' => {
-            let cause = row.figures[2];
-            score.check(row.line, is_refused(ask(position::tally, book, row), cause));
+            score.check(row.line, tally_refused(book, row));
             for balance in balances(book, row) {
-                score.check(row.line, is_refused(balance, cause));
+                score.check(row.line, is_refused(balance, row.figures[2], 0));
             }
         }
         _ => score.check(row.line, asked(book, row)),
