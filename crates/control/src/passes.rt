@@ -55,7 +55,9 @@ fn cancel(book: &mut [u32], day: u32, flags: &Flags) -> u32
     n
 }
 
-// One pass by a table: its parties are counted, and their sales cancelled together.
+// One pass by a table: its parties are counted, and their sales cancelled together. Not inlined, so that a pass that has nobody
+// takes no stack for the flags.
+#[inline(never)]
 fn pass_by_table(book: &mut [u32], day: u32, pass: Pass) -> Passed
     requires { is_book book.old ≡ true }
     ensures counts { result ≡ pass_of (of_pass (is_second pass) book.old day) day book.old }

@@ -11,7 +11,9 @@ ghost use Rattle.tally.specs.Scan.{scanned};
 use balance_formulas::Figures;
 use rules::{PartyDay, Refusal};
 
-// What both balances of a party's day are made of, by one pass over the book.
+// What both balances of a party's day are made of, by one pass over the book. Inlined, as the scan is, so that the seventeen
+// sums are not copied from frame to frame.
+#[inline(always)]
 fn figures(book: &[u32], party: u32, day: u32) -> Result<Figures, Refusal>
     ensures answer { answer_of result ≡ party_day_cause book.now party day }
     ensures day { IfOk result (λ f. f.day ≡ scanned party day (entries book.now)) }

@@ -30,7 +30,8 @@ pub fn sum_place(entry_type: u32) -> usize
 }
 
 // The tally and B of a party's day, with the book's R and TM, by one pass over its entries. Whole words are compared: a word
-// of a book has its kind and no unnamed bit.
+// of a book has its kind and no unnamed bit. Inlined, so that the sums are not copied to its caller.
+#[inline(always)]
 pub fn scan(book: &Book<'_>, party: u32, day: u32) -> Figures
     requires party_in_range { party ≤ last_party }
     requires day_in_range { day ≤ last_day }
