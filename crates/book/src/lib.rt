@@ -6,13 +6,13 @@ ghost use Rattle.rules.specs.Refusals.{answer_of};
 ghost use Rattle.rules.specs.Answers.{posted_of, counted_of, entry_read_of};
 ghost use Rattle.rules.specs.Entry.{key_in};
 ghost use Rattle.rules.specs.Words.{is_book, count_of};
-ghost use Rattle.rules.specs.Book.{count_answer, read_answer};
+ghost use Rattle.rules.specs.Book.{count_answer, no_read, read_answer};
 ghost use Rattle.rules.specs.Balance.{party_day_cause};
 ghost use Rattle.rules.specs.Calls.{cause_of, words_after, post_answer};
 ghost use Rattle.rules.specs.Calls as calls;
 
 use rules::layout::WITHDRAWN;
-use rules::{Entry, Key, Refusal};
+use rules::{Entry, EntryRead, Key, Refusal};
 use words::Book;
 
 // Whether the words are a book.
@@ -89,6 +89,21 @@ pub fn count(book: &[u32]) -> Result<u32, Refusal>
     ensures { counted_of result ≡ count_answer book.now }
 {
     Ok(Book::of(book)?.count())
+}
+
+// The entry of a refusal, by any cause: each figure is zero.
+pub fn no_read(cause: u32) -> EntryRead
+    ensures { result ≡ no_read cause }
+{
+    EntryRead {
+        answer: cause,
+        party: 0,
+        day: 0,
+        entry_type: 0,
+        counterparty: 0,
+        status: 0,
+        amount: 0,
+    }
 }
 
 // One entry by its number.

@@ -1,5 +1,5 @@
-// Sums over entries as the cells of a table: definitions (specs/) and laws (proofs/) for the crates that scan a book, and what
-// adds an amount to a cell. A caller meets its `requires`.
+// Internal: sums over entries as the cells of a table: definitions (specs/) and laws (proofs/) for the crates that scan a book,
+// and what adds an amount to a cell. A caller meets its `requires`.
 #![tactic(auto)]
 
 ghost use Rattle.std.specs.Prelude.{◌≡◌, cond, ◌+◌, ◌^◌, ◌<◌, get_or};

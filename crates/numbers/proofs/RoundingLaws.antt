@@ -2,7 +2,7 @@
 use mathlib.Core.Path.{◌≡◌, sym}
 use mathlib.Core.Logic.{inl, inr}
 use Prim.Native.Nat.{ℕ, ◌+◌, ◌*◌, ◌-◌, ◌/◌, ◌%◌, ◌≤◌, ◌<◌, min, zero-le}
-use native.Mathlib.Nat.{le_of_suc-le-suc, mul_left_comm, add-mul, suc-mul, div-zero, div-add-mod', mod-lt, div-mul-le_self, le-div_iff_mul-le, div-lt_iff_lt-mul, div-eq_of_lt-le, eq-zero-or-pos}
+use native.Mathlib.Nat.{le_of_suc-le-suc, mul_left_comm, add-mul, suc-mul, div-zero, div-add-mod', mod-lt, div-mul-le_self, le-div_iff_mul-le, div-lt_iff_lt-mul, div-eq_of_lt-le, eq-zero-or-pos, le-mul_of_pos_right}
 use native.Mathlib.Omega.{arith}
 use Rattle.std.proofs.lemmas.Grind.{div_ceil_times}
 use Rattle.numbers.specs.Rounding.{half_up, round_up}
@@ -88,3 +88,7 @@ module _ (a b : ℕ) where
   -- the library's `div_ceil`
   pub round_up-ceil : 0 < b → a / b + min 1 (a % b) ≡ round_up a b
   round_up-ceil p = let t = div_ceil_times a b p in sym (round_up-is a b (a / b + min 1 (a % b)) t.0 t.1)
+
+  -- a quotient with a rest can still be raised by one
+  pub quotient-below : 0 < b → (a % b ≡ 0 → ⊥) → a / b < a
+  quotient-below p h = omega (arith, div-add-mod' a b, le-mul_of_pos_right (a / b) p)

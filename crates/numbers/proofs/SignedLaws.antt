@@ -1,5 +1,5 @@
 -- Laws of signed figures: differences of natural numbers, the order, the lower of two, and sums. Assumes nothing.
-use mathlib.Core.Path.{◌≡◌, refl}
+use mathlib.Core.Path.{◌≡◌, refl, ap}
 use mathlib.Core.Logic.{◌⊎◌, inl, inr}
 use mathlib.Core.Bool.{Bool, true, false, not, cond}
 use Prim.Native.Nat.{ℕ, zero, suc, ◌+◌, ◌*◌, ◌-◌, max, ◌≤◌, ◌<◌, zero-le}
@@ -8,8 +8,10 @@ use native.Mathlib.Numerals.{add-one}
 use native.Mathlib.Omega.{arith}
 use lib.Dec.{T, le→leb}
 use lib.IntN.{ℤ, pos, negsuc, nat_abs, neg_ℤ, sub_ℕ, ◌+ℤ◌}
-use lib.Signed.{lt_z, ◌≤ℤ◌, le_z_yes}
+use lib.Signed.{lt_z, ◌≤ℤ◌, ◌<ℤ◌, <ℤ_irrefl, le_z_yes}
 use borrow.Author.Tests.{lt-ltb, le-ltb}
+use Rattle.std.specs.Cmp.{int_chain}
+use Rattle.std.proofs.lemmas.Int.{by_lt_z}
 use Rattle.numbers.specs.Signed.{lower, sum_ℤ}
 use Rattle.numbers.proofs.TestLaws.{below-or-above}
 
@@ -35,12 +37,26 @@ sub-mono {a} {a'} {c} {c'} h k = go (below-or-above a c) (below-or-above a' c')
     go (inr p) (inl q) = absurd (omega arith)
     go (inr p) (inr q) = rw (sub-above a c p, sub-above a' c' q) (pos-le (omega arith))
 
+-- equal differences
+pub sub-eq : (a b c d : ℕ) → a + d ≡ c + b → sub_ℕ a b ≡ sub_ℕ c d
+sub-eq a b c d e = go (below-or-above a b) (below-or-above c d)
+  where
+    go : (a < b) ⊎ (b ≤ a) → (c < d) ⊎ (d ≤ c) → sub_ℕ a b ≡ sub_ℕ c d
+    go (inl p) (inl q) = rw (sub-below a b p, sub-below c d q) (ap negsuc (omega arith))
+    go (inl p) (inr q) = absurd (omega arith)
+    go (inr p) (inl q) = absurd (omega arith)
+    go (inr p) (inr q) = rw (sub-above a b p, sub-above c d q) (ap pos (omega arith))
+
 pub nat_abs-sub : (a b : ℕ) → nat_abs (sub_ℕ a b) ≤ max a b
 nat_abs-sub a b = go (below-or-above a b)
   where
     go : (a < b) ⊎ (b ≤ a) → nat_abs (sub_ℕ a b) ≤ max a b
     go (inl p) = rw (sub-below a b p) (omega arith)
     go (inr p) = rw (sub-above a b p) (omega arith)
+
+-- the order
+pub <ℤ-≤ℤ : {a b : ℤ} → a <ℤ b → a ≤ℤ b
+<ℤ-≤ℤ {a} {b} h = by_lt_z b a (λ k. absurd (<ℤ_irrefl (int_chain a b a h k))) (λ k. k)
 
 -- the lower of two
 lower-ind : (P : ℤ → Type 0) (a b : ℤ) → (T (not (lt_z b a)) → P a) → (T (lt_z b a) → P b) → P (lower a b)

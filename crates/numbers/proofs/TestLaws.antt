@@ -63,6 +63,9 @@ pub holds-every : (ts : List Bool) → Holds ts → every ts ≡ true
 holds-every [] h = refl
 holds-every (t ∷ ts) h = every-cons t ts ∙ and-join t (every ts) h.0 (holds-every ts h.1)
 
+pub every-fails : (ts : List Bool) → ¬ Holds ts → every ts ≡ false
+every-fails ts h = elim (bool_cases (every ts)) [ inl e ↦ absurd (h (every_holds ts e)) | inr e ↦ e ]
+
 module _ {A : Type 0} where
   pub all_append : (f : A → Bool) (xs ys : List A) → all f (xs ++ ys) ≡ all f xs && all f ys
   unfolding all

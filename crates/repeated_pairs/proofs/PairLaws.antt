@@ -230,6 +230,11 @@ module _ (few : Bool) (d : ℕ) (r : Record) where
     unfolding buyer_marked
     buyer-kept e = marked-no with_flag (is_hit few d among pairs) (λ x. (key x).counterparty) r flags e
 
+    -- no cancelled entry of the day
+    pub buyer-not : is_cancelled r && eqb (key r).day d ≡ false → flags ≡ buyer_marked few d among pairs r flags
+    unfolding is_hit
+    buyer-not h = buyer-kept (rw h)
+
 -- the buyer of a legal hit has a flag
 pub hit-buyer : (few : Bool) (d : ℕ) (among : List Bool) (pairs : List ℕ) (r : Record) → legal r ≡ true → is_hit few d among pairs r ≡ true → (key r).counterparty ≤ last_party
 unfolding is_hit

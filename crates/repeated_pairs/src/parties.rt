@@ -8,7 +8,7 @@ use rules::bounds::NUMBERS;
 use std::marker::Model;
 
 // Clauses see the list of the flags.
-#[derive(Drop)]
+#[derive(Clone, Copy)]
 pub struct Flags {
     set: [bool; NUMBERS],
 }
@@ -17,6 +17,8 @@ impl Model for Flags {
     ghost Value = { List Bool };
 
     ghost view = { λ f. f.set };
+
+    ghost inverse = { λ flags. record { set = flags } };
 }
 
 impl Flags {

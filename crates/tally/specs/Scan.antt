@@ -2,13 +2,18 @@
 use Rattle.std.specs.Prelude.{Bool, not, ◌&&◌, List, [], ◌∷◌, ℕ, eqb}
 use Rattle.numbers.specs.Tests.{every}
 use Rattle.rules.specs.Entry.{Label, Record, is_volume, is_export, standing}
-use Rattle.rules.specs.Balance.{tally_of, bought_by, sum_place}
+use Rattle.rules.specs.Balance.{tally_of, bought_by, no_tally, sum_place}
 use Rattle.rules.specs.declared.PartyDay.{PartyDay}
+use Rattle.rules.specs.declared.TallyAnswer.{TallyAnswer}
 use Rattle.cells.specs.Cells.{Cells, one_if}
 
 -- the tally and B of a party's day
 abbrev pub scanned : ℕ → ℕ → List Record → PartyDay
 scanned p d rs = record { tally = tally_of p d rs; bought = bought_by p d rs }
+
+-- a refusal: every figure is zero
+abbrev pub none_for : ℕ → TallyAnswer
+none_for cause = record { answer = cause; tally = no_tally; bought = 0 }
 
 -- an entry that counts in the sums of a day: standing, of the day, of a volume type, no export
 unfoldable pub counts : ℕ → Label → Bool

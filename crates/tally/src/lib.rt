@@ -2,7 +2,7 @@
 #![tactic(auto)]
 
 ghost use Rattle.std.specs.Prelude.{◌≡◌, ◌≤◌, true};
-ghost use Rattle.tally.specs.Scan.{scanned};
+ghost use Rattle.tally.specs.Scan.{scanned, none_for};
 ghost use Rattle.rules.specs.Entry.{last_party, last_day, is_volume};
 ghost use Rattle.rules.specs.Words.{entries, coefficient_of, tolerance_of};
 ghost use Rattle.rules.specs.Balance.{sum_place};
@@ -11,7 +11,7 @@ use balance_formulas::{Figures, Tolerances};
 use rules::layout::{
     BILATERAL, DAY_WORD, FIGURES_WORD, PARTY_WORD, TYPES, UPDATED_PROGRAM, WITHDRAWN_WORD,
 };
-use rules::{PartyDay, SUMS, Tally};
+use rules::{PartyDay, SUMS, Tally, TallyAnswer};
 use words::Book;
 
 // The kind 3 word of a standing type 6 entry with counterparty 0: an export. Each counterparty adds TYPES.
@@ -70,5 +70,19 @@ pub fn scan(book: &Book<'_>, party: u32, day: u32) -> Figures
     Figures {
         day: PartyDay { tally, bought },
         tolerances,
+    }
+}
+
+// The tally of a refusal, by any cause: each figure is zero.
+pub fn no_tally(cause: u32) -> TallyAnswer
+    ensures { result ≡ none_for cause }
+{
+    TallyAnswer {
+        answer: cause,
+        tally: Tally {
+            party: 0,
+            sums: [0; SUMS],
+        },
+        bought: 0,
     }
 }

@@ -1,4 +1,4 @@
-// Internal: a checked book over its words, for the crates above it.
+// Internal: a checked book over its words, for the crates above it. A caller meets each `requires`.
 #![tactic(auto)]
 
 ghost use Rattle.std.specs.Prelude.{◌≡◌, true, List, ℕ, ◌+◌, ◌*◌, ◌<◌, ◌≤◌, leb, length, drop, false, IfOk, IfErr, OnOk, OnErr};
@@ -51,12 +51,12 @@ fn words_at(words: &[u32], at: usize) -> EntryWords
 }
 
 // Each entry is checked once, where it lies.
-fn entries_ok(words: &[u32], count: u32) -> bool
+pub fn entries_ok(words: &[u32], count: usize) -> bool
     requires { 3 + 5 * count ≤ length words.now }
     ensures { result ≡ entries_ok count (drop 3 words.now) }
 {
     for i in 0..count {
-        if !words_at(words, place_of(i)).is_ok() {
+        if !words_at(words, HEAD_WORDS + ENTRY_WORDS * i).is_ok() {
             return false;
         }
     }
@@ -64,7 +64,7 @@ fn entries_ok(words: &[u32], count: u32) -> bool
 }
 
 // How many entries a slice of this length has room for.
-fn room(lent: usize) -> usize
+pub fn room(lent: usize) -> usize
     ensures { result ≡ room_in lent }
 {
     if lent < HEAD_WORDS {
@@ -98,7 +98,7 @@ fn is_book(words: &[u32]) -> bool
     if !head {
         return false;
     }
-    entries_ok(words, count)
+    entries_ok(words, count as usize)
 }
 
 impl<'a> Book<'a> {

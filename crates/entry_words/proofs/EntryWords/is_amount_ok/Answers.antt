@@ -1,4 +1,4 @@
--- `entry_words::amount_words_ok` meets its contract. Assumes nothing.
+-- `EntryWords::is_amount_ok` meets its contract. Assumes nothing.
 use Rattle.rules.specs.Entry.{amount_limit}
 use Rattle.rules.proofs.WordLaws.{amount-range}
 use Rattle.entry_words.specs.Parts.{amount_words_ok}

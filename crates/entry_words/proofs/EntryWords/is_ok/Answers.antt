@@ -1,4 +1,4 @@
--- `entry_words::words_ok` meets its contract. Assumes nothing.
+-- `EntryWords::is_ok` meets its contract. Assumes nothing.
 use Rattle.entry_words.proofs.WordTests.{plain-words, mark-words}
 use Rattle.entry_words.proofs.EntryWords.is_ok.Goals as goal
 

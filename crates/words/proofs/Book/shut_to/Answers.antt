@@ -1,4 +1,4 @@
--- `words::shut_to` meets its contract. Assumes nothing.
+-- `Book::shut_to` meets its contract. Assumes nothing.
 use Rattle.rules.specs.Book.{shut_to}
 use Rattle.entry_checks.proofs.Ladder.{passed, failed}
 use Rattle.words.proofs.Book.shut_to.Goals as goal
