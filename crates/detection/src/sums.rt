@@ -144,15 +144,15 @@ impl Table {
         position::detected(tolerances.balanced(sales, cover))
     }
 
-    // Flags the detected ones among some parties.
+    // Flags the detected ones among some parties. Most have no sale: nothing is stored for these.
     fn flag_detected(&self, tolerances: Tolerances, among: &Flags) -> Flags
         requires { AtMost most_sum self.now }
         ensures { flagged result ≡ detected_among self.now tolerances.coefficient tolerances.tolerance among.now }
     {
         let mut flags = Flags::none();
         for p in 1..LAST_PARTY + 1 {
-            if among.has(p) {
-                flags.put(p, self.is_detected(p, tolerances));
+            if among.has(p) && self.is_detected(p, tolerances) {
+                flags.put(p, true);
             }
         }
         flags
