@@ -1,13 +1,13 @@
 // Internal: what the day-ahead balance reads of every party's day, by one scan of a checked book, and the parties detected
 // by it. A caller meets each `requires`.
-ghost use Rattle.std.specs.Prelude.{◌≡◌, true, ◌≤◌, ℕ, List};
+ghost use Rattle.std.specs.Prelude.{◌≡◌, true, ◌≤◌, ℕ, List, ltb, get_or};
 ghost use Rattle.rules.specs.Entry.{key, legal, last_party, record_in};
 ghost use Rattle.rules.specs.Words.{is_book, entries};
 ghost use Rattle.rules.specs.Balance.{is_detected};
 ghost use Rattle.cells.specs.Cells.{added, blank, AtMost};
 ghost use Rattle.balance_formulas.specs.Bounded.{most_sum};
 ghost use Rattle.repeated_pairs.specs.Flags.{flagged};
-ghost use Rattle.detection.specs.Tables.{is_sale_type, is_read_type, last_type, side_of, is_read, table_cells, day_cells, table_of, ahead_at, detected_among, checked};
+ghost use Rattle.detection.specs.Tables.{is_sale_type, is_read_type, last_type, side_of, is_read, table_cells, day_cells, table_of, cell_of, ahead_at, detected_among, checked};
 
 use balance_formulas::Tolerances;
 use repeated_pairs::parties::Flags;
@@ -144,6 +144,14 @@ impl Table {
         position::detected(tolerances.balanced(sales, cover))
     }
 
+    // Whether a party has a sale.
+    fn has_sale(&self, party: u32) -> bool
+        requires { party ≤ last_party }
+        ensures { result ≡ ltb 0 (get_or self.now (cell_of party 0) 0) }
+    {
+        0 < self.cells[PARTY_CELLS * (party as usize) + SALES]
+    }
+
     // Flags the detected ones among some parties. Most have no sale: nothing is stored for these.
     fn flag_detected(&self, tolerances: Tolerances, among: &Flags) -> Flags
         requires { AtMost most_sum self.now }
@@ -151,8 +159,8 @@ impl Table {
     {
         let mut flags = Flags::none();
         for p in 1..LAST_PARTY + 1 {
-            if among.has(p) && self.is_detected(p, tolerances) {
-                flags.put(p, true);
+            if among.has(p) && self.has_sale(p) {
+                flags.put(p, self.is_detected(p, tolerances));
             }
         }
         flags

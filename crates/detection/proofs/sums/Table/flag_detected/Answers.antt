@@ -1,10 +1,11 @@
 use mathlib.Core.Path.{sym, ◌∙◌}
-use mathlib.Core.Bool.{true}
+use mathlib.Core.Bool.{false}
 use native.Mathlib.Omega.{arith}
+use borrow.Author.Tests.{ltb-false}
 use Rattle.repeated_pairs.proofs.FlagLaws.{below-start, below_set, below-skip, below_end}
-use Rattle.detection.proofs.BelowLaws.{detected-none, detected-past, detected-asked, detected-not_asked}
+use Rattle.detection.proofs.BelowLaws.{no-sales, detected-none, detected-past, detected-asked, detected-not_asked}
 use Rattle.detection.proofs.sums.Table.flag_detected.Goals as goal
-use Rattle.detection.proofs.sums.Table.flag_detected.Goals.{then-has+then-is_detected, else-has, else-has-via-then-has+else-is_detected, else-has-via-else-has}
+use Rattle.detection.proofs.sums.Table.flag_detected.Goals.{then-has+then-has_sale, else-has, else-has-via-then-has+else-has_sale, else-has-via-else-has}
 
 pub loop-p-init : goal.loop-p-init
 loop-p-init c = let a = c.args in below-start _ _ c.none-flags.ensures (detected-none a.self.now a.tolerances.coefficient a.tolerances.tolerance a.among.now)
@@ -15,13 +16,14 @@ loop-p-preserved c =
     let b = c.loop-p.invariant in
     let asked = detected-asked a.self.now a.tolerances.coefficient a.tolerances.tolerance a.among.now c.loop-p.p in
     elim c.if-has.branch [
-      | then-has+then-is_detected w ↦
-          rw w.flags-is (rw w.put.ensures (below_set _ c.loop-p.p c.loop-p.flags b true (omega arith)
-          (sym w.if-is_detected.true ∙ asked w.is_detected.result (rw c.has.ensures at w.if-has.true) (omega arith) (omega arith) w.is_detected.ensures)))
+      | then-has+then-has_sale w ↦
+          rw w.flags-is (rw w.put.ensures (below_set _ c.loop-p.p c.loop-p.flags b w.is_detected.result (omega arith)
+          (asked w.is_detected.result (rw c.has.ensures at w.if-has.true) (omega arith) (omega arith) w.is_detected.ensures)))
       | else-has w ↦
           rw w.flags-is (below-skip _ c.loop-p.p c.loop-p.flags b (elim w.else-has.branch [
-            | else-has-via-then-has+else-is_detected v ↦
-                sym (asked v.is_detected.result (rw c.has.ensures at v.if-has.true) (omega arith) (omega arith) v.is_detected.ensures) ∙ v.if-is_detected.false
+            | else-has-via-then-has+else-has_sale v ↦
+                sym (asked false (rw c.has.ensures at v.if-has.true) (omega arith) (omega arith)
+                (no-sales _ _ _ _ (omega (arith, ltb-false _ _ (sym v.has_sale.ensures ∙ v.if-has_sale.false)))))
             | else-has-via-else-has v ↦ detected-not_asked a.self.now a.tolerances.coefficient a.tolerances.tolerance a.among.now c.loop-p.p (rw c.has.ensures at v.if-has.false)
           ]))
     ]
