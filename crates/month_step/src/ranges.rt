@@ -12,15 +12,18 @@ use crate::tables::MonthTables;
 use rules::Refusal;
 use rules::bounds::{MOST_HOURS, MOST_IMBALANCE, MOST_PRICE, MOST_ROWS};
 
-// The lowest cause that holds: 11, 12, or none.
+// The lowest cause that holds: 11, 12, or none. Lengths that do not agree, and rows or a group out of range, are refused
+// before a figure is read.
 pub fn check<P: Figures<u32>, V: Figures<i32>>(m: &MonthTables<P, V>) -> Result<(), Refusal>
     ensures { answer_of result ≡ month_cause (read P.figures V.figures m.now) }
 {
     if !lengths_agree(m.prices.count(), m.imbalance.count(), m.rows, m.dm.count()) {
         return Err(Refusal::BadLength);
     }
-    if !(places_ok(m.rows, m.group)
-        & each(&m.prices, |price| price <= MOST_PRICE)
+    if !places_ok(m.rows, m.group) {
+        return Err(Refusal::BadFigure);
+    }
+    if !(each(&m.prices, |price| price <= MOST_PRICE)
         & each(&m.imbalance, volume_ok)
         & each(&m.dm, volume_ok))
     {

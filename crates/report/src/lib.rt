@@ -27,9 +27,9 @@ fn put_line(party: u32, day: u32, ahead: i64, due: i64, out: &mut Out<'_>)
     out.put(b' ');
     out.put_number(day);
     out.put(b' ');
-    out.put_number(ahead);
+    out.put_signed(ahead);
     out.put(b' ');
-    out.put_number(due);
+    out.put_signed(due);
     out.put(b'\n');
 }
 

@@ -1,16 +1,18 @@
 -- Laws of numbers as text, and of text laid over lent bytes. Assumes nothing.
 use mathlib.Core.Path.{◌≡◌, refl, sym, ◌∙◌, ap, ap₂}
+use mathlib.Core.Bool.{true, false, true≢false}
 use mathlib.Core.List.{List, [], ◌∷◌, ◌++◌, append_assoc, append-nil}
 use mathlib.Core.Logic.{inl, inr}
 use Prim.Native.Nat.{ℕ, zero, suc, ◌+◌, ◌-◌, ◌*◌, ◌/◌, ◌%◌, ◌^◌, min, ◌≤◌, ◌<◌, zero-le}
 use native.Mathlib.Nat.{add-zero, zero-add, suc-mul, pow-suc}
 use native.Mathlib.Numerals.{add-one}
 use native.Mathlib.Omega.{arith}
-use lib.IntN.{ℤ, pos, negsuc}
+use lib.IntN.{ℤ, pos, negsuc, nat_abs}
 use lib.ListN.{length, take, drop, set, length-append, length-set}
 use lib.Seq.{set_out, take_at, drop_at, length-take-le}
 use lib.Signed.{mag}
-use borrow.Author.Tests.{lt-ltb, le-ltb}
+use borrow.Author.Tests.{ltb-true, lt-ltb, le-ltb}
+use Rattle.numbers.specs.Signed.{is_negative}
 use Rattle.std.specs.Borrow.{MutBor}
 use Rattle.std.specs.Fmt.{decimal as decimal-std, signed_decimal as signed-std}
 use Rattle.std.proofs.lemmas.Bool.{cases_lt}
@@ -109,6 +111,17 @@ pub signed-printed : (z : ℤ) → mag z < 2 ^ 63 → signed-std z ≡ signed z
 unfolding signed
 signed-printed (pos n) h = decimal-printed n (omega arith)
 signed-printed (negsuc n) h = ap (λ ds. 45 ∷ ds) (decimal-printed (suc n) (omega arith))
+
+-- a negative number has a minus sign
+pub signed-negative : (x : ℤ) → is_negative x ≡ true → signed x ≡ (45 ∷ []) ++ decimal (nat_abs x)
+unfolding signed
+signed-negative (pos n) e = absurd (omega (arith, ltb-true n 0 e))
+signed-negative (negsuc n) e = refl
+
+pub signed-other : (x : ℤ) → is_negative x ≡ false → signed x ≡ decimal (nat_abs x)
+unfolding signed
+signed-other (pos n) e = refl
+signed-other (negsuc n) e = absurd (true≢false e)
 
 -- how long a number's text is: one below a power of ten, any number, and any signed number
 digit-more : (n x : ℕ) → length (digits (suc n) x) ≤ length (digits n (x / 10)) + 1

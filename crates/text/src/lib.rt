@@ -2,7 +2,7 @@
 #![tactic(auto)]
 
 ghost use Rattle.std.specs.Prelude.{◌≡◌, ◌∷◌, [], ◌≤◌, length};
-ghost use Rattle.text.specs.Text.{refusal, Wrote};
+ghost use Rattle.text.specs.Text.{signed, refusal, Wrote};
 
 use itoa::{Buffer, Integer};
 
@@ -54,6 +54,16 @@ impl<'a> Out<'a> {
     {
         let mut digits = Buffer::new();
         self.put_bytes(digits.format(x).as_bytes());
+    }
+
+    // A signed figure: its size, after a minus sign where it is below zero.
+    pub fn put_signed(&mut self, x: i64)
+        ensures { Puts self.old (signed x) self.new }
+    {
+        if x < 0 {
+            self.put(b'-');
+        }
+        self.put_number(numbers::magnitude(x));
     }
 }
 

@@ -2,7 +2,7 @@
 use mir.Syntax.{w64}
 use mir.ValLaws.{to_z-of_z}
 use native.Mathlib.Omega.{arith}
-use Rattle.text.proofs.TextLaws.{puts_then, decimal-printed, signed-printed}
+use Rattle.text.proofs.TextLaws.{puts_then, decimal-printed}
 use Rattle.report.specs.Report.{line_text}
 use Rattle.report.proofs.put_line.Goals as goal
 
@@ -11,6 +11,6 @@ unfolding line_text
 returns c =
     let party = rw (decimal-printed c.args.party (omega arith)) at c.put_number.ensures in
     let day = rw (decimal-printed c.args.day (omega arith)) at c.put_number-2.ensures in
-    let ahead = rw (to_z-of_z w64 c.args.ahead c.ranges.ahead, signed-printed c.args.ahead c.ranges.ahead.sfits) at c.put_number-3.ensures in
-    let due = rw (to_z-of_z w64 c.args.due c.ranges.due, signed-printed c.args.due c.ranges.due.sfits) at c.put_number-4.ensures in
+    let ahead = rw (to_z-of_z w64 c.args.ahead c.ranges.ahead) at c.put_signed.ensures in
+    let due = rw (to_z-of_z w64 c.args.due c.ranges.due) at c.put_signed-2.ensures in
     puts_then (puts_then (puts_then (puts_then party c.put.ensures) (puts_then day c.put-2.ensures)) (puts_then ahead c.put-3.ensures)) (puts_then due c.put-4.ensures)
