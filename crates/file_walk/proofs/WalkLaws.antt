@@ -213,14 +213,13 @@ unread Broken k = 0
 abbrev pub to_come : Pass → ℕ
 to_come p = unread p.form (length p.reader.bytes.now - p.reader.at)
 
-module _ {bs : List ℕ} {p : Pass} (a : Along bs p) {left : ℕ} (on : p.form ≡ Open left) {next : Pass} (e : next ≡ passed_on p.reader left) where
-  pub along-on : Along bs next
-  along-on =
-      record {
-        bytes = rw e (ap (λ (b : Bor (List ℕ)). b.now) (same-bytes p.reader left) ∙ a.bytes);
-        within = rw (e, ← a.bytes) (within-on p.reader left (rw a.bytes a.within));
-        same = rw e (pass-shape p.reader left ∙ (rw on at a).same);
-      }
+-- what a pass keeps, and that less is left to read, also where nothing is known of its place
+module _ (p : Pass) {left : ℕ} (on : p.form ≡ Open left) {next : Pass} (e : next ≡ passed_on p.reader left) where
+  pub bytes-on : {bs : List ℕ} → p.reader.bytes.now ≡ bs → next.reader.bytes.now ≡ bs
+  bytes-on h = rw e (ap (λ (b : Bor (List ℕ)). b.now) (same-bytes p.reader left) ∙ h)
+
+  pub same-on : {whole : Bool} → shape p.form (words_left p.reader) ≡ whole → shape next.form (words_left next.reader) ≡ whole
+  same-on h = rw e (pass-shape p.reader left ∙ (rw on at h))
 
   pub less-on : to_come next < to_come p
   less-on = rw (e, on) (go (passed_on p.reader left).form (λ k. further p.reader left))
@@ -229,3 +228,13 @@ module _ {bs : List ℕ} {p : Pass} (a : Along bs p) {left : ℕ} (on : p.form �
       go (Open k) h = rw (same-bytes p.reader left) (omega (arith, h k refl))
       go Ended h = omega arith
       go Broken h = omega arith
+
+-- the pass after it is along the bytes too
+module _ {bs : List ℕ} {p : Pass} (a : Along bs p) {left : ℕ} (on : p.form ≡ Open left) {next : Pass} (e : next ≡ passed_on p.reader left) where
+  pub along-on : Along bs next
+  along-on =
+      record {
+        bytes = bytes-on p on e a.bytes;
+        within = rw (e, ← a.bytes) (within-on p.reader left (rw a.bytes a.within));
+        same = same-on p on e a.same;
+      }

@@ -8,7 +8,7 @@ pub loop-pass-init : goal.loop-pass-init
 loop-pass-init c = along-start _ c.new.result (ap (λ b. b.now) c.new.ensures.0) c.new.ensures.1
 
 pub loop-pass-smaller : goal.loop-pass-smaller
-loop-pass-smaller c = less-on c.loop-pass.invariant c.in-Open.is c.pass_on-pass.ensures
+loop-pass-smaller c = less-on _ c.in-Open.is c.pass_on-pass.ensures
 
 pub loop-pass-preserved : goal.loop-pass-preserved
 loop-pass-preserved c = along-on c.loop-pass.invariant c.in-Open.is c.pass_on-pass.ensures
